@@ -1,5 +1,5 @@
 -- The lines of a text, and how calls begin and end in them.
-use Rattle.std.proofs.Common.{◌≡◌, ℕ, List, [], ◌∷◌, ◌++◌, ap, sym, ◌∙◌, append_assoc, subst, ◌≢◌, false, Option, None, Some, IfNone, ◌+◌, ◌<◌, ◌≤◌, inl, inr, arith, codes}
+use Rattle.std.proofs.Common.{◌≡◌, ℕ, List, [], ◌∷◌, ◌++◌, ap, sym, ◌∙◌, append_assoc, subst, ◌≢◌, Option, None, Some, IfNone, ◌+◌, ◌<◌, ◌≤◌, inl, inr, arith, codes}
 use Rattle.std.specs.Prelude.{All}
 use Rattle.std.specs.Borrow.{Bor}
 use Rattle.std.specs.List.{flat_map}

@@ -1,9 +1,9 @@
 -- Bars in rising order, and the points of orders.
-use Rattle.std.proofs.Common.{◌≡◌, ◌⊎◌, ℕ, ◌+◌, ◌<◌, ◌≤◌, List, [], ◌∷◌, ◌++◌, All, AllPairs, Contains, get_or, length, take, flat_map, inl, inr, ap, refl, subst, sym, ◌∙◌, arith, append_assoc}
+use Rattle.std.proofs.Common.{◌≡◌, ◌⊎◌, ℕ, ◌+◌, ◌<◌, ◌≤◌, List, [], ◌∷◌, ◌++◌, All, AllPairs, Contains, get_or, length, take, flat_map, inl, inr, ap, refl, subst, sym, ◌∙◌, arith}
 use Rattle.std.specs.List.{AllZip}
 use Rattle.std.proofs.lemmas.Bool.{cases_lt}
 use Rattle.std.proofs.lemmas.List.{append-nil, get_or_default, get_or_push, length-append, take_more}
-use Rattle.std.proofs.lemmas.Grind.{common_steps}
+use Rattle.std.proofs.lemmas.Grind.{common_steps, flat_map-append}
 use Rattle.std.proofs.lemmas.List.Elements.{All-append, All-cons, All-contains, All-nil, All-push, Contains-push}
 use Rattle.std.proofs.lemmas.List.Quantifiers.{all_pairs_push}
 use Rattle.std.proofs.lemmas.Slice.Zip.{all_zipped_more}
@@ -94,37 +94,26 @@ module _ (bars : List Bar) (lines : List ℕ) where
           (subst (λ (n : ℕ). IsPointOf bars (get_or lines n 0) p) s.size is);
     }
 
--- one order more
-pub orders_more : (bars : List Bar) (orders : List Order) (o : Order) (old new : List Point)
-    → ArePoints bars orders old
-    → (ps : List Point) × (new ≡ old ++ ps) × ArePointsOf bars o.lines.items ps
-    → ArePoints bars (orders ++ o ∷ []) new
-orders_more bars orders o old new (each, is, zip) (ps, more, points) = (
-  each ++ ps ∷ [],
-  more ∙ (ap (λ (l : List Point). l ++ ps) is ∙ (sym (joined each ps))),
-  all_zipped_more (λ (x : Order). ArePointsOf bars x.lines.items) orders each o ps zip points,
-)
-  where
-    joined : (each : List (List Point)) (ps : List Point)
-        → flat_map (λ (l : List Point). l) (each ++ ps ∷ [])
-        ≡ flat_map (λ (l : List Point). l) each ++ ps
-    joined [] ps = append-nil ps
-    joined (l ∷ each) ps =
-        ap (λ (x : List Point). l ++ x) (joined each ps)
-        ∙ sym (append_assoc l (flat_map (λ (x : List Point). x) each) ps)
-
 -- the next of these orders
 pub orders_next : (bars : List Bar) (orders : List Order) (i : ℕ) (o : Order) (lines : List ℕ)
     (old new : List Point) → i < length orders → o ≡ get_or orders i o
     → lines ≡ o.lines.items → ArePoints bars (take i orders) old
     → (ps : List Point) × (new ≡ old ++ ps) × ArePointsOf bars lines ps
     → ArePoints bars (take (i + 1) orders) new
-orders_next bars orders i o lines old new h is same points (ps, more, next) =
+orders_next bars orders i o lines old new h is same (each, made, zip) (ps, more, next) =
+    let all : List (List Point) → List Point = flat_map (λ (l : List Point). l) in
+    let joined : all (each ++ ps ∷ []) ≡ all each ++ ps =
+    flat_map-append (λ (l : List Point). l) each (ps ∷ [])
+    ∙ ap (λ (l : List Point). all each ++ l) (append-nil ps) in
     let longer : take (i + 1) orders ≡ take i orders ++ o ∷ [] =
     take_more orders i o h ∙ ap (λ (x : Order). take i orders ++ x ∷ []) (sym is) in
-    subst (λ (l : List Order). ArePoints bars l new) (sym longer)
-    (orders_more bars (take i orders) o old new points
-    (ps, more, subst (λ (l : List ℕ). ArePointsOf bars l ps) same next))
+    let are : Order → List Point → Type 0 = λ x. ArePointsOf bars x.lines.items in (
+      each ++ ps ∷ [],
+      more ∙ (ap (λ (l : List Point). l ++ ps) made ∙ sym joined),
+      subst (λ (l : List Order). AllZip are l (each ++ ps ∷ [])) (sym longer)
+          (all_zipped_more are (take i orders) each o ps zip
+          (subst (λ (l : List ℕ). ArePointsOf bars l ps) same next)),
+    )
 
 -- each of them lies in a bar
 pub in_bars : (bars : List Bar) (orders : List Order) (points : List Point)

@@ -1,5 +1,5 @@
 -- What a time line shows, and what is drawn of a log.
-use Rattle.std.proofs.Common.{◌≡◌, ℕ, zero, suc, ◌+◌, ◌<◌, ◌≤◌, List, [], ◌∷◌, ◌++◌, Contains, get_or, length, inl, inr, ap, refl, subst, sym, ◌∙◌, arith, Option, Some, None, Result, Ok, Err, IfOk, IfSome, OnOk, codes, string_bytes}
+use Rattle.std.proofs.Common.{◌≡◌, ℕ, zero, suc, ◌+◌, ◌<◌, ◌≤◌, List, [], ◌∷◌, ◌++◌, Contains, get_or, length, inl, inr, ap, refl, subst, sym, ◌∙◌, arith, Option, Some, None, Result, Ok, Err, IfOk, IfSome, OnErr, codes, string_bytes}
 use Rattle.std.specs.Borrow.{Bor}
 use Rattle.std.proofs.lemmas.Bool.{cases_lt}
 use Rattle.std.proofs.lemmas.List.{length-append}
@@ -12,7 +12,11 @@ use Rattle.history_drawing.specs.declared.timeline.Bar.{Bar}
 use Rattle.history_drawing.specs.declared.timeline.Window.{Window}
 use Rattle.std.specs.declared.alloc.AllocError.{AllocError}
 use Rattle.std.specs.Io.KnownBytes.{Appends}
-use Rattle.line_streams.specs.Filters.{either, status_number}
+use Rattle.line_streams.specs.Filters.{Ran, either, status_number}
+use Rattle.std.specs.Result.{IsOkAnd}
+use Rattle.std.specs.declared.alloc.Global.{Global}
+use Rattle.std.specs.declared.io.Error.{Error}
+use Rattle.std.specs.declared.vec.Vec.{Vec}
 use Rattle.history_drawing.specs.Drawings.{DrawnWith, IsDrawingOf}
 use Rattle.history_drawing.specs.declared.drawing.Drawing.{Drawing}
 
@@ -111,37 +115,45 @@ module _ (lines : List (Bor (List ℕ))) (w : Window) where
         wide = omega (arith, size, wide, h.wide, x.2);
       }
 
--- what is drawn of what was read
-pub drawn_of : (given : Option (List ℕ)) (log : List ℕ) (d : Drawing)
-    → IfSome given (λ input. log ≡ input) → IsDrawingOf log d
-    → IfSome given (λ log. IsDrawingOf log d)
-drawn_of None log d same is = tt
-drawn_of (Some input) log d same is = subst (λ (l : List ℕ). IsDrawingOf l d) same is
+-- the status, and what the output and the errors get
+abbrev status_of : Result Drawing AllocError → ℕ
+status_of = either (λ d. status_number d.status) (λ why. 3)
 
--- what is an error is none that succeeded
-pub no_error : (r : Result Drawing AllocError) (x : AllocError) (d : Drawing) → r ≡ Err x
-    → r ≡ Ok d → ⊥
-no_error r x d bad good = let e = sym bad ∙ good in absurd (cc)
+abbrev output_of : Result Drawing AllocError → List ℕ
+output_of = either (λ d. string_bytes d.picture) (λ why. [])
 
--- what the writers get of it
-pub drawn_where_written : {E : Type 0} (given : Option (List ℕ)) (end : Result Drawing AllocError)
-    (wrote : Result ℕ E) (a b e f : Option (List ℕ))
-    → ((d : Drawing) → end ≡ Ok d → IfSome given (λ log. IsDrawingOf log d))
-    → IfOk wrote (λ status.
-    status ≡ either (λ (d : Drawing). status_number d.status) (λ (why : AllocError). 3) end)
-    → OnOk wrote (Appends a b
-    (either (λ (d : Drawing). string_bytes d.picture) (λ (why : AllocError). []) end))
-    → OnOk wrote (Appends e f
-    (either (λ (d : Drawing). d.message.items) (λ (why : AllocError). codes "no memory\n") end))
-    → IfOk wrote (λ status. status < 3 → IfSome given (λ log. DrawnWith log status a b e f))
-drawn_where_written given end (Err x) a b e f draws is out err = tt
-drawn_where_written None end (Ok status) a b e f draws is out err = λ small. tt
-drawn_where_written (Some log) (Err why) (Ok status) a b e f draws is out err =
-    λ small. absurd (omega (arith, small, is))
-drawn_where_written (Some log) (Ok d) (Ok status) a b e f draws is out err = λ small. record {
-  d = d;
-  is = draws d refl;
-  reported = is;
-  output = out;
-  errors = err;
-}
+abbrev errors_of : Result Drawing AllocError → List ℕ
+errors_of = either (λ d. d.message.items) (λ why. codes "no memory\n")
+
+-- what is drawn is drawn of what was read
+abbrev DrawsRead : Result (Vec ℕ Global) AllocError → Result Drawing AllocError → Type 0
+DrawsRead read end = IfOk end (λ d. IsOkAnd read (λ log. IsDrawingOf log.items d))
+
+-- what the writers get of it, where the status is below 3
+pub drawn_where_ran : (Works : Result (Vec ℕ Global) AllocError → Result Drawing AllocError
+    → Type 0) (wrote : Result ℕ Error) (given left a b e f last : Option (List ℕ)) (status : ℕ)
+    → ((read : Result (Vec ℕ Global) AllocError) (end : Result Drawing AllocError)
+    → Works read end → DrawsRead read end)
+    → IfOk wrote (λ n. Ran Works status_of output_of errors_of n given left a b e f)
+    → IfOk wrote (λ n. (status ≡ n) × (last ≡ f)) → OnErr wrote (status ≡ 3) → status < 3
+    → IfSome given (λ log. DrawnWith log status a b e last)
+drawn_where_ran Works (Err x) given left a b e f last status draws ran same failed small =
+    absurd (omega (arith, failed, small))
+drawn_where_ran Works (Ok n) None left a b e f last status draws ran same failed small = tt
+drawn_where_ran Works (Ok n) (Some log) left a b e f last status draws ran same failed small =
+    go ran.read ran.outcome (draws ran.read ran.outcome ran.worked) ran.all
+    (same.0 ∙ ran.is_status) ran.output (rw same.1 ran.errors)
+  where
+    go : (read : Result (Vec ℕ Global) AllocError) (end : Result Drawing AllocError)
+        → DrawsRead read end → IfOk read (λ bytes. bytes.items ≡ log) → status ≡ status_of end
+        → Appends a b (output_of end) → Appends e last (errors_of end)
+        → DrawnWith log status a b e last
+    go read (Err why) drawn all is out err = absurd (omega (arith, is, small))
+    go (Err why) (Ok d) drawn all is out err = absurd drawn
+    go (Ok bytes) (Ok d) drawn all is out err = record {
+      d = d;
+      is = subst (λ (l : List ℕ). IsDrawingOf l d) all drawn;
+      reported = is;
+      output = out;
+      errors = err;
+    }

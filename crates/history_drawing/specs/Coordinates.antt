@@ -25,17 +25,13 @@ is_above line None = false
 abbrev pub ends_above : ℕ → Bar → Bool
 ends_above line b = is_above line (own_end b)
 
--- the call ends in a line of its own
-abbrev pub is_apart : Bar → Bool
-is_apart b = is_some (own_end b)
-
 -- The column of a line: each line in which calls of the picture begin or end has one, in order.
 abbrev pub column : List Bar → ℕ → ℕ
 column bars line = count_by (λ (b : Bar). ltb b.begin line) bars + count_by (ends_above line) bars
 
 -- how many columns there are
 abbrev pub columns : List Bar → ℕ
-columns bars = length bars + count_by is_apart bars
+columns bars = length bars + count_by (λ (b : Bar). is_some (own_end b)) bars
 
 -- where the column of a line begins
 abbrev pub left : List Bar → ℕ → ℕ
@@ -48,10 +44,6 @@ right bars = 130 + 118 * columns bars
 -- where a row begins
 abbrev pub top : ℕ → ℕ
 top row = 76 + 64 * row
-
--- where the bar of a call that begins in this line begins
-abbrev pub begin_of : List Bar → ℕ → ℕ
-begin_of bars line = left bars line + 4
 
 -- where the bar of a call that ends so ends: at the right border where it is open
 abbrev pub end_of : List Bar → BarEnd → ℕ

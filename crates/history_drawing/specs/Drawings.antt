@@ -1,5 +1,5 @@
 -- What is drawn of a log.
-use Rattle.std.specs.Prelude.{◌≡◌, ◌⊎◌, ℕ, ◌+◌, List, [], ◌∷◌, ◌++◌, All, Option, None, Some, drop, length, string_bytes}
+use Rattle.std.specs.Prelude.{◌≡◌, ◌⊎◌, ℕ, ◌+◌, ◌-◌, List, [], ◌∷◌, ◌++◌, All, Option, None, Some, drop, length, string_bytes}
 use Rattle.std.specs.Borrow.{Bor}
 use Rattle.std.specs.Io.KnownBytes.{Appends}
 use Rattle.std.specs.List.{flat_map}
@@ -44,15 +44,15 @@ pub record IsWindow (log : List ℕ) (reported : Refusal) (lines : List (Bor (Li
     : Type 0 where
   pub are : AreLines log lines
   pub first : w.first ≡ reported.window
-  pub last : w.last ≡ reported.line + 1
+  pub last : w.last ≡ reported.line
   pub service : IsFirstService lines w.service
-  pub wanted : IsServiceOf lines w.first w.last reported.line w.service w.wanted
+  pub wanted : IsServiceOf lines w.first (w.last + 1) reported.line w.service w.wanted
 
 -- of the lines of the log, these are all, with the calls on all services
 pub record IsWhole (log : List ℕ) (lines : List (Bor (List ℕ))) (w : Window) : Type 0 where
   pub are : AreLines log lines
   pub first : w.first ≡ 0
-  pub last : w.last ≡ length lines
+  pub last : w.last ≡ length lines - 1
   pub wanted : w.wanted ≡ None
 
 -- more than 200 calls belong in the picture of such lines
@@ -67,7 +67,7 @@ pub record ShowsWindow (log report : List ℕ) (reported : Refusal) (picture : L
   pub w : Window
   pub window : IsWindow log reported lines w
   pub t : Timeline
-  pub bars : AreBars lines w w.last t.rows.items t.bars.items
+  pub bars : AreBars lines w (w.last + 1) t.rows.items t.bars.items
   pub points : t.points.items ≡ []
   pub refused : t.refused ≡ Some reported.line
   pub is : IsPicture report t picture
@@ -79,7 +79,7 @@ pub record ShowsAll (log report picture : List ℕ) : Type 0 where
   pub w : Window
   pub whole : IsWhole log lines w
   pub t : Timeline
-  pub bars : AreBars lines w w.last t.rows.items t.bars.items
+  pub bars : AreBars lines w (w.last + 1) t.rows.items t.bars.items
   pub verdict : Verdict
   pub judged : Judged log verdict
   pub orders : List Order

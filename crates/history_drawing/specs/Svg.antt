@@ -1,14 +1,14 @@
 -- The text of a picture: calls and points, what stands around them, and the whole.
-use Rattle.std.specs.Prelude.{ℕ, ◌==◌, ◌&&◌, if◌then◌else◌, leb, List, [], ◌∷◌, ◌++◌, codes, Option, Some, None, ◌+◌, ◌-◌, Bool, true, false, ◌*◌, ◌/◌, length, max, min, take}
+use Rattle.std.specs.Prelude.{ℕ, ◌==◌, ◌&&◌, if◌then◌else◌, leb, List, [], ◌∷◌, ◌++◌, codes, Option, Some, None, ◌+◌, ◌-◌, ◌*◌, ◌/◌, length, max, min, take}
 use Rattle.std.specs.List.{flat_map}
 use Rattle.std.specs.Fmt.{decimal}
-use Rattle.history_drawing.specs.Coordinates.{left, own_end, begin_of, end_of, point_of, top, right}
+use Rattle.std.specs.Borrow.{Bor}
+use Rattle.history_drawing.specs.Coordinates.{left, own_end, end_of, point_of, top, right}
 use Rattle.history_drawing.specs.declared.svg.frame.TheConstants.{STYLE}
 use Rattle.history_drawing.specs.declared.timeline.Bar.{Bar}
 use Rattle.history_drawing.specs.declared.timeline.BarEnd.TheVariants.{Answered, Crashed, Open}
 use Rattle.history_drawing.specs.declared.timeline.BarEnd.{BarEnd}
 use Rattle.history_drawing.specs.declared.timeline.Point.{Point}
-use Rattle.std.specs.Borrow.{Bor}
 use Rattle.history_drawing.specs.declared.timeline.Timeline.{Timeline}
 
 -- A byte as a document has it: a mark of the language by its name, and what is no letter, digit or
@@ -24,10 +24,6 @@ escaped_byte b =
 abbrev pub escaped : List ℕ → List ℕ
 escaped bytes = flat_map escaped_byte bytes
 
--- bytes as a document has them, between two texts of the language
-unfoldable pub element_text : List ℕ → List ℕ → List ℕ → List ℕ
-element_text front bytes end = front ++ (escaped bytes ++ end)
-
 -- the begin of a document of this size
 unfoldable pub open_text : ℕ → ℕ → List ℕ
 open_text width height =
@@ -38,10 +34,10 @@ open_text width height =
 -- a line, as the title and above the picture
 unfoldable pub heading_text : List ℕ → List ℕ
 heading_text heading =
-    element_text (codes "<title>") heading (codes "</title>\n")
-    ++ (STYLE.now ++ (codes "<rect class=\"page\" width=\"100%\" height=\"100%\"/>\n"
-    ++ element_text (codes "<text class=\"heading\" x=\"12\" y=\"28\">") heading
-    (codes "</text>\n")))
+    codes "<title>" ++ (escaped heading ++ (codes "</title>\n" ++ (STYLE.now
+    ++ (codes "<rect class=\"page\" width=\"100%\" height=\"100%\"/>\n"
+    ++ (codes "<text class=\"heading\" x=\"12\" y=\"28\">" ++ (escaped heading
+    ++ codes "</text>\n"))))))
 
 -- the number of a line, and a line down through the rows
 unfoldable pub mark_text : ℕ → ℕ → ℕ → List ℕ
@@ -60,35 +56,33 @@ unfoldable pub marks_text : List Bar → ℕ → Bar → List ℕ
 marks_text bars bottom b =
     mark_text (left bars b.begin) bottom b.begin ++ mark_of bars bottom (own_end b)
 
--- what a caller is called: calls alone have none
-abbrev pub label : List ℕ → List ℕ
-label [] = codes "(alone)"
-label (letter ∷ letters) = letter ∷ letters
+-- a line of a text, so far below the one before
+unfoldable pub line_text : ℕ → List ℕ → List ℕ
+line_text below line =
+    codes "<tspan x=\"12\" dy=\"" ++ (decimal below ++ (codes "\">" ++ (escaped line
+    ++ codes "</tspan>\n")))
 
--- the name of a caller, one row below the one before
-unfoldable pub name_text : List ℕ → List ℕ
-name_text name = element_text (codes "<tspan x=\"12\" dy=\"64\">") (label name) (codes "</tspan>\n")
+-- the line, or what stands for an empty one
+abbrev pub line_or : List ℕ → List ℕ → List ℕ
+line_or empty [] = empty
+line_or empty (letter ∷ letters) = letter ∷ letters
 
--- a line of the report, below the one before
-unfoldable pub note_text : List ℕ → List ℕ
-note_text note = element_text (codes "<tspan x=\"12\" dy=\"18\">") note (codes "</tspan>\n")
+-- the lines of a text, each so far below the one before
+abbrev pub lines_text : ℕ → List ℕ → List (Bor (List ℕ)) → List ℕ
+lines_text below empty lines =
+    flat_map (λ (line : Bor (List ℕ)). line_text below (line_or empty line.now)) lines
 
--- how many further configurations there are
-unfoldable pub more_text : ℕ → List ℕ
-more_text more =
-    if more == 0 then []
-    else codes "<tspan x=\"12\" dy=\"18\">and " ++ (decimal more
-    ++ codes " more configurations</tspan>\n")
+-- the names of all callers, one a row; calls alone have none
+unfoldable pub names_text : List (Bor (List ℕ)) → List ℕ
+names_text names =
+    codes "<text class=\"name\" y=\"39\">\n"
+    ++ (lines_text 64 (codes "(alone)") names ++ codes "</text>\n")
 
--- whether the call is answered in the line of the reply that is refused
-abbrev pub is_refused : BarEnd → Option ℕ → Bool
-is_refused (Answered line words) (Some refused) = line == refused
-is_refused _ _ = false
-
--- what a call is in the picture
-abbrev pub class_text : Bool → List ℕ
-class_text true = codes "refused"
-class_text false = codes "call"
+-- what a call is in the picture: another one where its reply is the one in this line
+abbrev pub class_of : BarEnd → Option ℕ → List ℕ
+class_of (Answered line words) (Some refused) =
+    if line == refused then codes "refused" else codes "call"
+class_of _ _ = codes "call"
 
 -- what became of a call
 abbrev pub words_of : BarEnd → List ℕ
@@ -96,15 +90,12 @@ words_of (Answered line words) = words.now
 words_of (Crashed line) = codes "died"
 words_of Open = codes "open"
 
--- the begin of what is drawn of a call of this class
-unfoldable pub group_text : List ℕ → List ℕ
-group_text class = codes "<g class=\"" ++ (class ++ codes "\">\n")
-
--- the whole words of a call, which a browser shows where the pointer is
-unfoldable pub title_text : Bar → List ℕ
-title_text b =
-    element_text (codes "<title>") b.command.now (codes ": ")
-    ++ element_text [] (words_of b.end) (codes "</title>\n")
+-- the begin of what is drawn of a call of this class: its command and what became of it, which a
+-- browser shows where the pointer is
+unfoldable pub front_text : List ℕ → List ℕ → List ℕ → List ℕ
+front_text class command words =
+    codes "<g class=\"" ++ (class ++ (codes "\">\n<title>" ++ (escaped command
+    ++ (codes ": " ++ (escaped words ++ codes "</title>\n")))))
 
 -- the outline of a bar from one coordinate to another, which is open on the right
 unfoldable pub outline_text : ℕ → ℕ → ℕ → List ℕ
@@ -123,31 +114,24 @@ end_text to y (Crashed line) =
     ++ codes "m-8 14l16 16m0 -16l-16 16\"/>\n")))
 end_text to y Open = []
 
--- what cuts off the words of a call behind its bar
-unfoldable pub frame_text : ℕ → ℕ → ℕ → List ℕ
-frame_text from width y =
+-- the command of a call, and below it what became of it, cut off behind its bar
+unfoldable pub words_text : ℕ → ℕ → ℕ → List ℕ → List ℕ → List ℕ
+words_text from width y command words =
     codes "<svg x=\"" ++ (decimal from ++ (codes "\" y=\"" ++ (decimal y
-    ++ (codes "\" width=\"" ++ (decimal width ++ codes "\" height=\"44\">\n")))))
-
--- the command of a call, and below it what became of it
-unfoldable pub words_text : Bar → List ℕ
-words_text b =
-    element_text (codes "<text x=\"7\" y=\"18\">") b.command.now (codes "</text>\n")
-    ++ element_text (codes "<text class=\"reply\" x=\"7\" y=\"36\">") (words_of b.end)
-    (codes "</text></svg></g>\n")
+    ++ (codes "\" width=\"" ++ (decimal width
+    ++ (codes "\" height=\"44\">\n<text x=\"7\" y=\"18\">" ++ (escaped command
+    ++ (codes "</text>\n<text class=\"reply\" x=\"7\" y=\"36\">" ++ (escaped words
+    ++ codes "</text></svg></g>\n")))))))))
 
 -- a call from its left border to its right one
-unfoldable pub drawn_text : List ℕ → ℕ → ℕ → ℕ → Bar → List ℕ
-drawn_text class from to y b =
-    group_text class
-    ++ (title_text b ++ (outline_text from to y
-    ++ (end_text to y b.end ++ (frame_text from (to - from) y ++ words_text b))))
-
--- a call, which has a class of its own where its reply is the one that is refused
 unfoldable pub bar_text : List Bar → Option ℕ → Bar → List ℕ
 bar_text bars refused b =
-    drawn_text (class_text (is_refused b.end refused)) (begin_of bars b.begin) (end_of bars b.end)
-    (top b.row) b
+    let from = left bars b.begin + 4 in
+    let to = end_of bars b.end in
+    let y = top b.row in
+    front_text (class_of b.end refused) b.command.now (words_of b.end)
+    ++ (outline_text from to y
+    ++ (end_text to y b.end ++ words_text from (to - from) y b.command.now (words_of b.end)))
 
 -- a number in a circle
 unfoldable pub circle_text : ℕ → ℕ → ℕ → List ℕ
@@ -160,15 +144,6 @@ circle_text x y number =
 unfoldable pub point_text : List Bar → Point → List ℕ
 point_text bars p = circle_text (point_of bars p.line p.part) (top p.row + 53) p.number
 
--- the names of some callers, one a row
-abbrev pub rows_text : List (Bor (List ℕ)) → List ℕ
-rows_text names = flat_map (λ (name : Bor (List ℕ)). name_text name.now) names
-
--- the names of all callers
-unfoldable pub names_text : List (Bor (List ℕ)) → List ℕ
-names_text names =
-    codes "<text class=\"name\" y=\"39\">\n" ++ (rows_text names ++ codes "</text>\n")
-
 -- where the last row ends
 abbrev pub bottom : Timeline → ℕ
 bottom t = top (length t.rows.items)
@@ -180,30 +155,20 @@ calls_text t =
     ++ (flat_map (bar_text t.bars.items t.refused) t.bars.items
     ++ flat_map (point_text t.bars.items) t.points.items)
 
--- lines of a report, one below the other
-abbrev pub lines_text : List (Bor (List ℕ)) → List ℕ
-lines_text notes = flat_map (λ (note : Bor (List ℕ)). note_text note.now) notes
-
--- the lines of a report that are shown: four, and four for each of at most eight configurations
-abbrev pub shown : List (Bor (List ℕ)) → List (Bor (List ℕ))
-shown notes = take (min (length notes) 36) notes
-
--- the begin of what stands below the calls
-unfoldable pub below_text : ℕ → List ℕ
-below_text y = codes "<text y=\"" ++ (decimal y ++ codes "\">\n")
-
 -- how many more configurations there are, and the end of the document
 unfoldable pub tail_text : ℕ → List ℕ
-tail_text more = more_text more ++ codes "</text>\n</svg>\n"
+tail_text more =
+    if more == 0 then codes "</text>\n</svg>\n"
+    else codes "<tspan x=\"12\" dy=\"18\">and " ++ (decimal more
+    ++ codes " more configurations</tspan>\n</text>\n</svg>\n")
 
--- lines of a report, how many more configurations there are, and the end of the document
-unfoldable pub report_text : List (Bor (List ℕ)) → ℕ → ℕ → List ℕ
-report_text notes more y =
-    below_text y ++ (lines_text notes ++ tail_text more)
-
--- the lines of a report as far as they are shown, and the end of the document
-abbrev pub notes_text : List (Bor (List ℕ)) → ℕ → List ℕ
-notes_text notes y = report_text (shown notes) ((length notes - 36) / 4) y
+-- the lines of a report as far as they are shown: four, and four for each of at most eight
+-- configurations; then how many more configurations there are, and the end of the document
+unfoldable pub notes_text : List (Bor (List ℕ)) → ℕ → List ℕ
+notes_text notes y =
+    codes "<text y=\"" ++ (decimal y ++ (codes "\">\n"
+    ++ (lines_text 18 [] (take (min (length notes) 36) notes)
+    ++ tail_text ((length notes - 36) / 4))))
 
 -- A picture of a time line, with the first line of a report above it and the others below.
 unfoldable pub svg_text : Timeline → List ℕ → List (Bor (List ℕ)) → List ℕ

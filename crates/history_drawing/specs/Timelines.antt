@@ -21,7 +21,8 @@ IsOn (Some wanted) first None = first ≡ Some wanted
 
 -- the call begins in this line, and is wanted
 abbrev pub IsWanted : List (Bor (List ℕ)) → Window → ℕ → LogCall → Type 0
-IsWanted lines w k seen = BeginsIn lines k w.last seen × IsOn w.wanted w.service seen.service
+IsWanted lines w k seen =
+    BeginsIn lines k (w.last + 1) seen × IsOn w.wanted w.service seen.service
 
 -- the row of this index is the caller's
 abbrev pub IsRow : List (Bor (List ℕ)) → ℕ → List ℕ → Type 0
@@ -75,14 +76,14 @@ pub record HasMany (lines : List (Bor (List ℕ))) (w : Window) : Type 0 where
   pub bars : List Bar
   pub are : AreBars lines w limit rows bars
   pub many : length bars ≡ 200
-  pub inside : (w.first ≤ limit) × (limit < w.last)
+  pub inside : (w.first ≤ limit) × (limit ≤ w.last)
   pub seen : LogCall
   pub wanted : IsWanted lines w limit seen
 
 -- the bars of a window, with no point, and this line marked
 pub record IsTimeline (lines : List (Bor (List ℕ))) (w : Window) (marked : Option ℕ)
     (t : Timeline) : Type 0 where
-  pub bars : AreBars lines w w.last t.rows.items t.bars.items
+  pub bars : AreBars lines w (w.last + 1) t.rows.items t.bars.items
   pub points : t.points.items ≡ []
   pub refused : t.refused ≡ marked
 

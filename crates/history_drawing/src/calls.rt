@@ -1,5 +1,5 @@
 //! The lines of a log, and its calls by them.
-ghost use Rattle.std.specs.Prelude.{◌≡◌, ◌<◌, ℕ, IfNone, IfOk, IfSome, List, Option, drop};
+ghost use Rattle.std.specs.Prelude.{◌≡◌, ◌+◌, ℕ, IfNone, IfOk, IfSome, List, Option, drop};
 ghost use Rattle.log_lines.specs.Commands.{Begun, NamedCommand};
 ghost use Rattle.log_lines.specs.Laws.{IsAlike};
 ghost use Rattle.log_lines.specs.Lines.{line_seen};
@@ -108,12 +108,12 @@ fn end_in<'a>(text: &'a [u8], line: usize, caller: &[u8]) -> Option<BarEnd<'a>>
     Some(BarEnd::Crashed(line))
 }
 
-/// How a caller's call ends, in lines from one on and above another.
-fn end_from<'a>(lines: &[&'a [u8]], caller: &[u8], first: usize, last: usize) -> BarEnd<'a>
-    ensures { EndsFrom lines.now caller.now first last result }
+/// How a caller's call that begins in this line ends, in the lines below it up to the last one.
+fn end_below<'a>(lines: &[&'a [u8]], caller: &[u8], line: usize, last: usize) -> BarEnd<'a>
+    ensures { EndsFrom lines.now caller.now (line + 1) (last + 1) result }
 {
-    for line in first..last {
-        if let Some(end) = end_in(text_at(lines, line), line, caller) {
+    for above in line..last {
+        if let Some(end) = end_in(text_at(lines, above + 1), above + 1, caller) {
             return end;
         }
     }
@@ -185,18 +185,17 @@ fn alone_in<'a>(
     }))
 }
 
-/// The call that begins in this line, with its end above the last one.
+/// The call that begins in this line, with its end up to the last one.
 pub(crate) fn call_at<'a>(
     alloc: Global,
     lines: &[&'a [u8]],
     line: usize,
     last: usize,
 ) -> Result<Option<LogCall<'a>>, AllocError>
-    requires { line < last }
     ensures some { IfOk result (λ found. IfSome found (λ seen.
-        BeginsIn lines.now line last seen)) }
+        BeginsIn lines.now line (last + 1) seen)) }
     ensures none { IfOk result (λ found. IfNone found ((seen : LogCall)
-        → ¬ (BeginsIn lines.now line last seen))) }
+        → ¬ (BeginsIn lines.now line (last + 1) seen))) }
 {
     let text = text_at(lines, line);
     let Some(read) = read_log_line(alloc, text)? else {
@@ -207,7 +206,7 @@ pub(crate) fn call_at<'a>(
             service,
             caller,
             command: behind_mark(text),
-            end: end_from(lines, caller, line + 1, last),
+            end: end_below(lines, caller, line, last),
         }));
     }
     let Some(words) = replied(&read) else {

@@ -1,7 +1,6 @@
 //! Pictures of logs.
-ghost use Rattle.std.specs.Prelude.{◌≡◌, ◌+◌, ◌<◌, ◌≤◌, ℕ, IfNone, IfOk, IfSome, IsFalse, IsTrue, List};
-ghost use Rattle.std.specs.Prelude.{length, string_bytes};
-ghost use Rattle.history_logs.specs.Logs.{Judged};
+ghost use Rattle.std.specs.Prelude.{◌≡◌, ◌+◌, ℕ, IfNone, IfOk, IfSome, IsFalse, IsTrue, List};
+ghost use Rattle.std.specs.Prelude.{string_bytes};
 ghost use Rattle.history_logs.specs.Reports.{report_text};
 ghost use Rattle.history_drawing.specs.Calls.{BeginsIn, IsAnsweredIn, IsElsewhere, IsServiceOf};
 ghost use Rattle.history_drawing.specs.Drawings.{AreLines, Draws, DrawsAll, DrawsWindow};
@@ -78,22 +77,19 @@ fn is_answered(end: &BarEnd<'_>, line: usize) -> bool
     }
 }
 
-/// The call that begins in this line, if it is answered in the refused one. Its end is looked for
-/// above the last line.
+/// The call that begins in this line, if it is answered in the refused one.
 fn answered_at<'a>(
     alloc: Global,
     lines: &[&'a [u8]],
     line: usize,
-    last: usize,
     refused: usize,
 ) -> Result<Option<LogCall<'a>>, AllocError>
-    requires { line < last }
     ensures some { IfOk result (λ found. IfSome found (λ seen.
-        BeginsIn lines.now line last seen × IsAnsweredIn refused seen.end)) }
+        BeginsIn lines.now line (refused + 1) seen × IsAnsweredIn refused seen.end)) }
     ensures none { IfOk result (λ found. IfNone found
-        (IsElsewhere lines.now last refused line)) }
+        (IsElsewhere lines.now (refused + 1) refused line)) }
 {
-    let Some(call) = call_at(alloc, lines, line, last)? else {
+    let Some(call) = call_at(alloc, lines, line, refused)? else {
         return Ok(None);
     };
     if is_answered(&call.end, refused) {
@@ -103,19 +99,18 @@ fn answered_at<'a>(
 }
 
 /// The number of the service of the call that is answered in a refused line: of those that begin in
-/// the lines from one on and above another. That of the first service is given.
+/// the lines from one on up to it. That of the first service is given.
 fn service_of(
     alloc: Global,
     lines: &[&[u8]],
     first: usize,
-    last: usize,
     refused: usize,
     service: Option<u64>,
 ) -> Result<Option<u64>, AllocError>
-    ensures { IfOk result (IsServiceOf lines.now first last refused service) }
+    ensures { IfOk result (IsServiceOf lines.now first (refused + 1) refused service) }
 {
-    for line in first..last {
-        if let Some(call) = answered_at(alloc, lines, line, last, refused)? {
+    for line in first..=refused {
+        if let Some(call) = answered_at(alloc, lines, line, refused)? {
             return Ok(call.service.or(service));
         }
     }
@@ -123,21 +118,15 @@ fn service_of(
 }
 
 /// The lines of a refused reply, with the service of its call.
-fn window_of(
-    alloc: Global,
-    lines: &[&[u8]],
-    reported: &Refusal,
-    last: usize,
-) -> Result<Window, AllocError>
-    requires { last ≡ reported.now.line + 1 }
+fn window_of(alloc: Global, lines: &[&[u8]], reported: &Refusal) -> Result<Window, AllocError>
     ensures { IfOk result (λ w. (log : List ℕ) → AreLines log lines.now
         → IsWindow log reported.now lines.now w) }
 {
     let service = first_service(alloc, lines)?;
-    let wanted = service_of(alloc, lines, reported.window, last, reported.line, service)?;
+    let wanted = service_of(alloc, lines, reported.window, reported.line, service)?;
     Ok(Window {
         first: reported.window,
-        last,
+        last: reported.line,
         wanted,
         service,
     })
@@ -150,15 +139,11 @@ fn draw_refused(
     reported: &Refusal,
     report: &[u8],
 ) -> Result<Drawing, AllocError>
-    requires order { reported.now.window ≤ reported.now.line }
-    requires within { reported.now.line ≤ length log.now }
     ensures { IfOk result (DrawsWindow log.now reported.now report.now) }
 {
-    // For the proof: a line has a number below the greatest one.
-    let _fits = log.len();
     let lines = lines_of(alloc, log)?;
     let lines = lines.as_slice();
-    let window = window_of(alloc, lines, reported, reported.line + 1)?;
+    let window = window_of(alloc, lines, reported)?;
     let Some(timeline) = timeline_of(alloc, lines, &window, Some(reported.line))? else {
         return undrawn(alloc, MANY_CALLS);
     };
@@ -174,7 +159,7 @@ fn draw_whole(alloc: Global, log: &[u8], report: &[u8]) -> Result<Drawing, Alloc
     let lines = lines.as_slice();
     let window = Window {
         first: 0,
-        last: lines.len(),
+        last: lines.len().saturating_sub(1),
         wanted: None,
         service: None,
     };
@@ -188,8 +173,7 @@ fn draw_whole(alloc: Global, log: &[u8], report: &[u8]) -> Result<Drawing, Alloc
 
 /// What is drawn of a log, by its verdict and the report on it.
 fn draw(alloc: Global, log: &[u8], verdict: &Verdict, report: &[u8]) -> Result<Drawing, AllocError>
-    requires judged { Judged log.now verdict.now }
-    requires report { report.now ≡ report_text verdict.now }
+    requires { report.now ≡ report_text verdict.now }
     ensures { IfOk result (Draws log.now verdict.now) }
 {
     match verdict {

@@ -1,13 +1,14 @@
 //! Pictures of logs that come from a stream.
-ghost use Rattle.std.specs.Prelude.{◌<◌, IfOk, IfSome, OnOk, string_bytes};
+ghost use Rattle.std.specs.Prelude.{◌<◌, IfOk, IfSome, string_bytes};
+ghost use Rattle.std.specs.Result.{IsOkAnd};
 ghost use Rattle.std.specs.Io.KnownBytes.{IsAtEnd};
 ghost use Rattle.line_streams.specs.Filters.{status_number};
 ghost use Rattle.line_streams.specs.Streams.{IsFlushed};
-ghost use Rattle.history_drawing.specs.Drawings.{DrawnWith};
+ghost use Rattle.history_drawing.specs.Drawings.{DrawnWith, IsDrawingOf};
 
 use crate::drawing::{Drawing, draw_log};
-use line_streams::{Outcome, Sink, Source, read_all, report_failure, write_outcome, write_whole};
-use std::alloc::Global;
+use line_streams::{Outcome, Sink, Source, report_failure, run_filter, write_whole};
+use std::alloc::{AllocError, Global};
 use std::io;
 
 impl Outcome for Drawing {
@@ -30,26 +31,14 @@ impl Outcome for Drawing {
     }
 }
 
-/// Draws the log that the reader gives, and returns the status unless a stream fails.
-fn run<R: Source, W: Sink, E: Sink>(
-    alloc: Global,
-    input: &mut R,
-    output: &mut W,
-    errors: &mut E,
-) -> io::Result<u8>
-    ensures range { IfOk result (λ status. status < 4) }
-    ensures drawn { IfOk result (λ status. status < 3 → IfSome (R.remaining input.old)
-        (λ log. DrawnWith log status (W.contents output.old) (W.contents output.new)
-        (E.contents errors.old) (E.contents errors.new))) }
-    ensures flushed { OnOk result
-        (IsFlushed W.Flushes output.new × IsFlushed E.Flushes errors.new) }
-    ensures read { IfOk result (λ status. status < 3 → IsAtEnd (R.remaining input.new)) }
+/// What is drawn of the log that was read.
+fn draw_read(alloc: Global, read: Result<Vec<u8>, AllocError>) -> Result<Drawing, AllocError>
+    ensures { IfOk result (λ d. IsOkAnd read (λ log. IsDrawingOf log.items d)) }
 {
-    let end = match read_all(alloc, input)? {
+    match read {
         Ok(log) => draw_log(alloc, &log),
         Err(why) => Err(why),
-    };
-    write_outcome(output, errors, &end)
+    }
 }
 
 /// Draws the log that the reader gives, and answers the status of the program.
@@ -78,6 +67,6 @@ pub fn draw_streams<R: Source, W: Sink, E: Sink>(
     // All input was read.
     ensures read { result < 3 → IsAtEnd (R.remaining input.new) }
 {
-    let end = run(alloc, input, output, errors);
+    let end = run_filter(alloc, input, output, errors, |read| draw_read(alloc, read));
     report_failure(errors, end)
 }

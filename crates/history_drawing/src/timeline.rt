@@ -1,6 +1,6 @@
 //! Calls as bars on a time line.
 
-ghost use Rattle.std.specs.Prelude.{◌≡◌, ◌++◌, ◌∷◌, [], ◌+◌, ◌<◌, ◌≤◌, IfNone, IfOk, IfSome, IsFalse, IsTrue, OnOk};
+ghost use Rattle.std.specs.Prelude.{◌≡◌, ◌++◌, ◌∷◌, [], ◌+◌, ◌≤◌, IfNone, IfOk, IfSome, IsFalse, IsTrue, OnOk};
 ghost use Rattle.history_drawing.specs.Timelines.{AreApart, AreBars, Extends, HasMany, IsBarOf, IsOn};
 ghost use Rattle.history_drawing.specs.Timelines.{IsRow, IsTimeline, IsUnknown, IsWanted};
 ghost use Rattle.history_drawing.specs.declared.calls.LogCall.{LogCall};
@@ -66,7 +66,7 @@ pub(crate) struct Timeline<'a> {
 pub(crate) struct Window {
     /// The first line.
     pub(crate) first: usize,
-    /// The line behind the last one.
+    /// The last line.
     pub(crate) last: usize,
     /// The number of the service whose calls are wanted; `None` for all.
     pub(crate) wanted: Option<u64>,
@@ -143,7 +143,6 @@ fn wanted_at<'a>(
     window: &Window,
     line: usize,
 ) -> Result<Option<LogCall<'a>>, AllocError>
-    requires { line < window.now.last }
     ensures some { IfOk result (λ found. IfSome found (λ seen.
         IsWanted lines.now window.now line seen)) }
     ensures none { IfOk result (λ found. IfNone found ((seen : LogCall)
@@ -168,7 +167,7 @@ fn add_line<'a>(
     bars: &mut Vec<Bar<'a>>,
 ) -> Result<bool, AllocError>
     requires first { window.now.first ≤ line }
-    requires last { line < window.now.last }
+    requires last { line ≤ window.now.last }
     requires bars { AreBars lines.now window.now line rows.old.items bars.old.items }
     ensures fits { IfOk result (λ fits. IsTrue fits
         → AreBars lines.now window.now (line + 1) rows.new.items bars.new.items) }
@@ -191,14 +190,13 @@ pub(crate) fn timeline_of<'a>(
     window: &Window,
     refused: Option<usize>,
 ) -> Result<Option<Timeline<'a>>, AllocError>
-    requires { window.now.first ≤ window.now.last }
     ensures some { IfOk result (λ found. IfSome found (λ t.
         IsTimeline lines.now window.now refused t)) }
     ensures none { IfOk result (λ found. IfNone found (HasMany lines.now window.now)) }
 {
     let mut rows = Vec::new(alloc);
     let mut bars = Vec::new(alloc);
-    for line in window.first..window.last {
+    for line in window.first..=window.last {
         if !add_line(alloc, lines, window, line, &mut rows, &mut bars)? {
             return Ok(None);
         }

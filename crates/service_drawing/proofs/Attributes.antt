@@ -14,29 +14,19 @@ use Rattle.std.proofs.lemmas.List.{append-nil}
 use Rattle.std.proofs.lemmas.List.Elements.{filter_map-append}
 use Rattle.iox2_texts.specs.Verify.{Requirements}
 
--- the pair of one text
-pub same_pair : (text key value : List ℕ) → HasNo 32 key → text ≡ key ++ 32 ∷ value
-    → (pair : Pair) → IsPair pair → text ≡ pair_text pair → (key ≡ pair.key) × (value ≡ pair.value)
-same_pair text key value word spelled pair is other =
-    (before_one 32).same (key, value) (pair.key, pair.value) word is.key.word
-    (sym spelled ∙ other)
-
 -- a text that no name can be
 pub no_name_of : (n : ℕ) (bytes : List ℕ) (why : SemanticStringError) → MakesName n bytes (Err why)
     → ¬ IsName n bytes
 no_name_of n bytes why h legal = grind arith
 
--- a key that is refused
-pub no_key_of : (text key value : List ℕ) → HasNo 32 key → text ≡ key ++ 32 ∷ value
-    → ¬ IsName 64 key → (pair : Pair) → IsPair pair → ¬ (text ≡ pair_text pair)
-no_key_of text key value word spelled bad pair is other =
-    bad (rw (same_pair text key value word spelled pair is other).0 is.key.name)
-
--- a value that is refused
-pub no_value_of : (text key value : List ℕ) → HasNo 32 key → text ≡ key ++ 32 ∷ value
-    → ¬ IsName 256 value → (pair : Pair) → IsPair pair → ¬ (text ≡ pair_text pair)
-no_value_of text key value word spelled bad pair is other =
-    bad (rw (same_pair text key value word spelled pair is other).1 is.value)
+-- a text whose key or value is refused
+pub no_pair_of : (text key value : List ℕ) → HasNo 32 key → text ≡ key ++ 32 ∷ value
+    → ¬ (IsName 64 key × IsName 256 value) → (pair : Pair) → IsPair pair
+    → ¬ (text ≡ pair_text pair)
+no_pair_of text key value word spelled bad pair is other =
+    let same = (before_one 32).same (key, value) (pair.key, pair.value) word is.key.word
+    (sym spelled ∙ other) in
+    bad (rw (same.0, same.1) (is.key.name, is.value))
 
 -- a text with a space is no key
 pub no_key_in : (text word rest : List ℕ) → text ≡ word ++ 32 ∷ rest → (key : List ℕ) → IsKey key

@@ -2,7 +2,6 @@ mod Answered
 mod Attributes
 mod Descriptions
 mod Forms
-mod Fronts
 mod Inside
 mod SettingLines
 mod Words

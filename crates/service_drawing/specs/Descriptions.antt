@@ -1,8 +1,8 @@
 -- What a whole description is, what stands in front of it, and why a line is bad.
-use Rattle.std.specs.Prelude.{◌≡◌, ◌≢◌, ◌⊎◌, ℕ, List, [], ◌++◌, All, codes, flat_map, string_bytes, ◌==◌, ◌+◌, ◌<◌, ◌∷◌, not, Some, None, IsTrue, length, nat_eq, slice_index, map}
+use Rattle.std.specs.Prelude.{◌≡◌, ◌≢◌, ◌⊎◌, ℕ, List, [], ◌++◌, codes, drop, take, string_bytes, ◌==◌, ◌+◌, ◌<◌, ◌∷◌, not, Some, None, IsTrue, length, nat_eq, slice_index, map}
 use Rattle.iox2_config.specs.Defaults.{IsDefaultConfig}
 use Rattle.iox2_config.specs.declared.config.Config.{Config}
-use Rattle.line_streams.specs.Spelling.{HasNo}
+use Rattle.memchr.specs.Find.{FindsNeedle}
 use Rattle.config_report.specs.Findings.{HasConfig, IsRefusal}
 use Rattle.service_drawing.specs.declared.fault.Fault.{Fault}
 use Rattle.service_drawing.specs.declared.fault.Fault.TheVariants.{BadSettings, NoEnd, NoMemory}
@@ -25,29 +25,19 @@ use Rattle.service_drawing.specs.declared.settings.Value.{Value}
 abbrev pub Opens : List ℕ → Type 0
 Opens bytes = (more : List ℕ) × (bytes ≡ codes "config\n" ++ more)
 
--- a line of a file of settings: any but `end`
-abbrev pub IsInside : List ℕ → Type 0
-IsInside line = HasNo 10 line × (line ≢ codes "end")
+-- what stands behind the word `config`
+abbrev pub behind_config : List ℕ → List ℕ
+behind_config bytes = drop 6 bytes
 
--- lines, each with its newline
-abbrev pub lines_text : List (List ℕ) → List ℕ
-lines_text lines = flat_map (λ line. line ++ codes "\n") lines
-
--- the bytes begin with lines of a file of settings, and then a line `end`
-pub record Ends (inside rest bytes : List ℕ) : Type 0 where
-  pub lines : List (List ℕ)
-  pub each : All IsInside lines
-  pub text : inside ≡ lines_text lines
-  pub parts : bytes ≡ inside ++ (codes "end\n" ++ rest)
-
--- the bytes begin with a line `config`, the lines of a file of settings and a line `end`; the file
--- begins with the newline of the line `config`, so that its lines have the numbers of all lines
+-- The bytes begin with a line `config`, the lines of a file of settings and a line `end`, the first
+-- one. The file begins with the newline of the line `config`, so that its lines have the numbers of
+-- all lines.
 pub record HasBlock (settings rest bytes : List ℕ) : Type 0 where
-  pub inside : List ℕ
-  pub after : List ℕ
-  pub opens : bytes ≡ codes "config\n" ++ after
-  pub ends : Ends inside rest after
-  pub file : settings ≡ codes "\n" ++ inside
+  pub opens : Opens bytes
+  pub at : ℕ
+  pub ends : FindsNeedle (behind_config bytes) (codes "\nend\n") 0 (Some at)
+  pub file : settings ≡ take (at + 1) (behind_config bytes)
+  pub left : rest ≡ drop (at + 5) (behind_config bytes)
 
 -- what is left of the bytes is a description over this configuration: that of the block in front,
 -- whose unknown keys are reported, or without a block the default one

@@ -1,29 +1,52 @@
 //! Calls as bars, and the points at which they took effect.
 ghost use Rattle.std.specs.Prelude.{◌≡◌, ◌++◌, ◌≤◌, OnOk, length, string_bytes};
-ghost use Rattle.history_drawing.specs.Svg.{bar_text, circle_text, class_text, drawn_text, end_text};
-ghost use Rattle.history_drawing.specs.Svg.{frame_text, group_text, is_refused, outline_text, point_text};
-ghost use Rattle.history_drawing.specs.Svg.{title_text, words_of, words_text};
+ghost use Rattle.history_drawing.specs.Svg.{bar_text, circle_text, class_of, end_text};
+ghost use Rattle.history_drawing.specs.Svg.{front_text, mark_text, marks_text, outline_text, point_text, words_of, words_text};
 
-use super::coordinates::{begin_of, end_of, point_of, top};
-use super::frame::write_element;
+use super::coordinates::{GAP, end_of, left, own_end, point_of, top};
+use super::frame::Escaped;
 use crate::timeline::{Bar, BarEnd, Point};
 use std::alloc::AllocError;
 
-/// Whether the reply to the call is the one in this line.
-fn is_refused(end: &BarEnd<'_>, refused: Option<usize>) -> bool
-    ensures { result ≡ is_refused end.now refused }
+/// Appends the number of a line, and a line down through the rows.
+#[tactic(auto, unfolding(crate::specs::Svg::mark_text))]
+fn write_mark(out: &mut String, x: usize, bottom: usize, line: usize) -> Result<(), AllocError>
+    ensures { OnOk result (string_bytes out.new
+        ≡ string_bytes out.old ++ mark_text x bottom line) }
 {
-    match (end, refused) {
-        (BarEnd::Answered(line, _), Some(refused)) => *line == refused,
-        _ => false,
+    writeln!(
+        out,
+        "<path class=\"mark\" d=\"M{x} 48V{bottom}\"/><text class=\"line\" x=\"{x}\" y=\"62\" dx=\"5\">{line}</text>"
+    )
+}
+
+/// Appends the marks of the lines in which a call begins and ends.
+#[tactic(auto, unfolding(crate::specs::Svg::marks_text))]
+pub(super) fn write_marks(
+    out: &mut String,
+    bars: &[Bar<'_>],
+    bottom: usize,
+    bar: &Bar<'_>,
+) -> Result<(), AllocError>
+    requires { length bars.now ≤ 200 }
+    ensures { OnOk result (string_bytes out.new
+        ≡ string_bytes out.old ++ marks_text bars.now bottom bar.now) }
+{
+    write_mark(out, left(bars, bar.begin), bottom, bar.begin)?;
+    match own_end(bar) {
+        Some(line) => write_mark(out, left(bars, line), bottom, line),
+        None => Ok(()),
     }
 }
 
-/// The class of a call in the style sheet.
-fn class_of(is_refused: bool) -> &'static str
-    ensures { result.now ≡ class_text is_refused }
+/// The class of a call in the style sheet: another one where its reply is the one in this line.
+fn class_of(end: &BarEnd<'_>, refused: Option<usize>) -> &'static str
+    ensures { result.now ≡ class_of end.now refused }
 {
-    if is_refused { "refused" } else { "call" }
+    match (end, refused) {
+        (BarEnd::Answered(line, _), Some(refused)) if *line == refused => "refused",
+        _ => "call",
+    }
 }
 
 /// What became of a call.
@@ -37,22 +60,24 @@ fn words_of<'a>(end: &BarEnd<'a>) -> &'a [u8]
     }
 }
 
-/// Appends the begin of what is drawn of a call of this class.
-#[tactic(auto, unfolding(crate::specs::Svg::group_text))]
-fn write_group(out: &mut String, class: &str) -> Result<(), AllocError>
-    ensures { OnOk result (string_bytes out.new ≡ string_bytes out.old ++ group_text class.now) }
+/// Appends the begin of what is drawn of a call of this class: its command and what became of it,
+/// which a browser shows where the pointer is.
+#[tactic(auto, unfolding(crate::specs::Svg::front_text))]
+fn write_front(
+    out: &mut String,
+    class: &str,
+    command: &[u8],
+    words: &[u8],
+) -> Result<(), AllocError>
+    ensures { OnOk result (string_bytes out.new
+        ≡ string_bytes out.old ++ front_text class.now command.now words.now) }
 {
-    writeln!(out, "<g class=\"{class}\">")
-}
-
-/// Appends the whole words of a call, which a browser shows where the pointer is.
-#[tactic(auto, unfolding(crate::specs::Svg::title_text))]
-fn write_title(out: &mut String, bar: &Bar<'_>) -> Result<(), AllocError>
-    ensures { OnOk result (string_bytes out.new ≡ string_bytes out.old ++ title_text bar.now) }
-{
-    write_element(out, "<title>", bar.command, ": ")?;
-    write_element(out, "", words_of(&bar.end), "</title>\n")?;
-    Ok(())
+    let command = Escaped(command);
+    let words = Escaped(words);
+    writeln!(
+        out,
+        "<g class=\"{class}\">\n<title>{command}: {words}</title>"
+    )
 }
 
 /// Appends the outline of a bar, which has no line on the right.
@@ -79,52 +104,25 @@ fn write_end(out: &mut String, to: usize, y: usize, end: &BarEnd<'_>) -> Result<
     }
 }
 
-/// Appends the begin of the frame that cuts off the words of a call at the end of its bar.
-#[tactic(auto, unfolding(crate::specs::Svg::frame_text))]
-fn write_frame(out: &mut String, from: usize, width: usize, y: usize) -> Result<(), AllocError>
-    ensures { OnOk result (string_bytes out.new ≡ string_bytes out.old ++ frame_text from width y) }
-{
-    writeln!(
-        out,
-        "<svg x=\"{from}\" y=\"{y}\" width=\"{width}\" height=\"44\">"
-    )
-}
-
-/// Appends the command of a call, and below it what became of it.
+/// Appends the command of a call, and below it what became of it, cut off at the end of its bar.
 #[tactic(auto, unfolding(crate::specs::Svg::words_text))]
-fn write_words(out: &mut String, bar: &Bar<'_>) -> Result<(), AllocError>
-    ensures { OnOk result (string_bytes out.new ≡ string_bytes out.old ++ words_text bar.now) }
-{
-    write_element(out, "<text x=\"7\" y=\"18\">", bar.command, "</text>\n")?;
-    write_element(
-        out,
-        "<text class=\"reply\" x=\"7\" y=\"36\">",
-        words_of(&bar.end),
-        "</text></svg></g>\n",
-    )?;
-    Ok(())
-}
-
-/// Appends a call from its left border to its right one.
-#[tactic(auto, unfolding(crate::specs::Svg::drawn_text))]
-fn write_drawn(
+fn write_words(
     out: &mut String,
-    class: &str,
     from: usize,
-    to: usize,
+    width: usize,
     y: usize,
-    bar: &Bar<'_>,
+    command: &[u8],
+    words: &[u8],
 ) -> Result<(), AllocError>
     ensures { OnOk result (string_bytes out.new
-        ≡ string_bytes out.old ++ drawn_text class.now from to y bar.now) }
+        ≡ string_bytes out.old ++ words_text from width y command.now words.now) }
 {
-    write_group(out, class)?;
-    write_title(out, bar)?;
-    write_outline(out, from, to, y)?;
-    write_end(out, to, y, &bar.end)?;
-    write_frame(out, from, to.saturating_sub(from), y)?;
-    write_words(out, bar)?;
-    Ok(())
+    let command = Escaped(command);
+    let words = Escaped(words);
+    writeln!(
+        out,
+        "<svg x=\"{from}\" y=\"{y}\" width=\"{width}\" height=\"44\">\n<text x=\"7\" y=\"18\">{command}</text>\n<text class=\"reply\" x=\"7\" y=\"36\">{words}</text></svg></g>"
+    )
 }
 
 /// Appends a call.
@@ -140,10 +138,14 @@ pub(super) fn write_bar(
     ensures { OnOk result (string_bytes out.new
         ≡ string_bytes out.old ++ bar_text bars.now refused bar.now) }
 {
-    let class = class_of(is_refused(&bar.end, refused));
-    let from = begin_of(bars, bar.begin);
+    let from = left(bars, bar.begin) + GAP;
     let to = end_of(bars, &bar.end);
-    write_drawn(out, class, from, to, top(bar.row), bar)
+    let y = top(bar.row);
+    let words = words_of(&bar.end);
+    write_front(out, class_of(&bar.end, refused), bar.command, words)?;
+    write_outline(out, from, to, y)?;
+    write_end(out, to, y, &bar.end)?;
+    write_words(out, from, to.saturating_sub(from), y, bar.command, words)
 }
 
 /// Appends a number in a circle.

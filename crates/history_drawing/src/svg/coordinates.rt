@@ -1,7 +1,7 @@
 //! Where things stand in a picture, in pixels.
 ghost use Rattle.std.specs.Prelude.{◌≡◌, ◌+◌, ◌≤◌, ◌<◌, length};
-ghost use Rattle.history_drawing.specs.Coordinates.{begin_of, column, columns, end_of, ends_above, is_apart};
-ghost use Rattle.history_drawing.specs.Coordinates.{left, own_end, point_of, right, top};
+ghost use Rattle.history_drawing.specs.Coordinates.{end_of, ends_above, left, own_end, point_of};
+ghost use Rattle.history_drawing.specs.Coordinates.{right, top};
 
 use crate::timeline::{Bar, BarEnd};
 
@@ -12,7 +12,7 @@ const LEFT: usize = 130;
 const COLUMN: usize = 118;
 
 /// How far bars stay from the borders of columns.
-const GAP: usize = 4;
+pub(super) const GAP: usize = 4;
 
 /// Where the first row begins.
 const TOP: usize = 76;
@@ -41,39 +41,16 @@ fn ends_above(bar: &Bar<'_>, line: usize) -> bool
     }
 }
 
-/// Whether the call ends in a line of its own.
-fn is_apart(bar: &Bar<'_>) -> bool
-    ensures { result ≡ is_apart bar.now }
-{
-    own_end(bar).is_some()
-}
-
-/// How many lines with a begin or an end stand above this one.
-fn column(bars: &[Bar<'_>], line: usize) -> usize
-    requires { length bars.now ≤ 200 }
-    ensures value { result ≡ column bars.now line }
-    ensures bound { result ≤ 400 }
-{
-    bars.iter().filter(|bar| bar.begin < line).count()
-        + bars.iter().filter(|bar| ends_above(bar, line)).count()
-}
-
-/// How many lines with a begin or an end there are.
-fn columns(bars: &[Bar<'_>]) -> usize
-    requires { length bars.now ≤ 200 }
-    ensures value { result ≡ columns bars.now }
-    ensures bound { result ≤ 400 }
-{
-    bars.len() + bars.iter().filter(|bar| is_apart(bar)).count()
-}
-
-/// Where the column of this line begins.
+/// Where the column of this line begins: a column for each line above it in which a call begins or
+/// ends.
 pub(super) fn left(bars: &[Bar<'_>], line: usize) -> usize
     requires { length bars.now ≤ 200 }
     ensures value { result ≡ left bars.now line }
     ensures bound { result ≤ 100000 }
 {
-    LEFT + COLUMN * column(bars, line)
+    let begun = bars.iter().filter(|bar| bar.begin < line).count();
+    let ended = bars.iter().filter(|bar| ends_above(bar, line)).count();
+    LEFT + COLUMN * (begun + ended)
 }
 
 /// Where the last column ends.
@@ -82,7 +59,7 @@ pub(super) fn right(bars: &[Bar<'_>]) -> usize
     ensures value { result ≡ right bars.now }
     ensures bound { result ≤ 100000 }
 {
-    LEFT + COLUMN * columns(bars)
+    LEFT + COLUMN * (bars.len() + bars.iter().filter(|bar| own_end(bar).is_some()).count())
 }
 
 /// Where a row begins.
@@ -92,14 +69,6 @@ pub(super) fn top(row: usize) -> usize
     ensures bound { result ≤ 100000 }
 {
     TOP + ROW * row
-}
-
-/// Where the bar of a call that begins in this line begins.
-pub(super) fn begin_of(bars: &[Bar<'_>], line: usize) -> usize
-    requires { length bars.now ≤ 200 }
-    ensures { result ≡ begin_of bars.now line }
-{
-    left(bars, line) + GAP
 }
 
 /// Where the bar of a call that ends so ends.

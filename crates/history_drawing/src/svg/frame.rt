@@ -1,51 +1,31 @@
 //! Text in a document, and what stands around the calls of a picture.
-ghost use Rattle.std.specs.Prelude.{◌≡◌, ◌++◌, ◌≤◌, OnOk, length, string_bytes};
-ghost use Rattle.history_drawing.specs.Svg.{heading_text, label, mark_text, marks_text};
-ghost use Rattle.history_drawing.specs.Svg.{more_text, name_text, note_text, open_text};
-ghost use Rattle.history_drawing.specs.Svg.{element_text, escaped, escaped_byte};
+ghost use Rattle.std.specs.Prelude.{◌≡◌, ◌++◌, OnOk, Some, string_bytes};
+ghost use Rattle.history_drawing.specs.Svg.{escaped, heading_text, line_or, line_text};
+ghost use Rattle.history_drawing.specs.Svg.{lines_text, names_text, notes_text, open_text, tail_text};
 
-use super::coordinates::{left, own_end};
-use crate::timeline::Bar;
 use std::alloc::AllocError;
+use std::fmt;
 
-/// Appends a byte as a document has it: `&`, `<` and `>` by their names, and what is no printable
-/// ASCII as `?`.
-fn write_byte(out: &mut String, byte: u8) -> Result<(), AllocError>
-    ensures { OnOk result (string_bytes out.new ≡ string_bytes out.old ++ escaped_byte byte) }
-{
-    match byte {
-        b'&' => out.push_str("&amp;"),
-        b'<' => out.push_str("&lt;"),
-        b'>' => out.push_str("&gt;"),
-        b' '..=b'~' => out.push(byte as char),
-        _ => out.push_str("?"),
+/// Bytes as a document has them: `&`, `<` and `>` by their names, and what is no printable ASCII as
+/// `?`.
+#[derive(Clone, Copy)]
+pub(super) struct Escaped<'a>(pub(super) &'a [u8]);
+
+impl fmt::Display for Escaped<'_> {
+    ghost output = { λ e. Some (escaped e.0.now) };
+
+    fn fmt<W: fmt::Write>(&self, f: &mut fmt::Formatter<W>) -> fmt::Result {
+        for byte in self.0 {
+            match *byte {
+                b'&' => f.write_str("&amp;")?,
+                b'<' => f.write_str("&lt;")?,
+                b'>' => f.write_str("&gt;")?,
+                b' '..=b'~' => f.write_char(*byte as char)?,
+                _ => f.write_str("?")?,
+            }
+        }
+        Ok(())
     }
-}
-
-/// Appends bytes as a document has them.
-fn write_escaped(out: &mut String, bytes: &[u8]) -> Result<(), AllocError>
-    ensures { OnOk result (string_bytes out.new ≡ string_bytes out.old ++ escaped bytes.now) }
-{
-    for byte in bytes {
-        write_byte(out, *byte)?;
-    }
-    Ok(())
-}
-
-/// Appends bytes as a document has them, between the tags that begin and end an element.
-#[tactic(auto, unfolding(crate::specs::Svg::element_text))]
-pub(super) fn write_element(
-    out: &mut String,
-    front: &str,
-    bytes: &[u8],
-    end: &str,
-) -> Result<(), AllocError>
-    ensures { OnOk result (string_bytes out.new
-        ≡ string_bytes out.old ++ element_text front.now bytes.now end.now) }
-{
-    out.push_str(front)?;
-    write_escaped(out, bytes)?;
-    out.push_str(end)
 }
 
 /// The style sheet: fonts, strokes and colours, also for those who read light on dark.
@@ -98,85 +78,84 @@ pub(super) fn write_heading(out: &mut String, heading: &[u8]) -> Result<(), Allo
     ensures { OnOk result (string_bytes out.new
         ≡ string_bytes out.old ++ heading_text heading.now) }
 {
-    write_element(out, "<title>", heading, "</title>\n")?;
-    out.push_str(STYLE)?;
-    out.push_str("<rect class=\"page\" width=\"100%\" height=\"100%\"/>\n")?;
-    write_element(
+    let heading = Escaped(heading);
+    writeln!(
         out,
-        "<text class=\"heading\" x=\"12\" y=\"28\">",
-        heading,
-        "</text>\n",
-    )?;
+        "<title>{heading}</title>\n{STYLE}<rect class=\"page\" width=\"100%\" height=\"100%\"/>\n<text class=\"heading\" x=\"12\" y=\"28\">{heading}</text>"
+    )
+}
+
+/// Appends a line of a text, so far below the one before.
+#[tactic(auto, unfolding(crate::specs::Svg::line_text))]
+fn write_line(out: &mut String, below: usize, line: &[u8]) -> Result<(), AllocError>
+    ensures { OnOk result (string_bytes out.new
+        ≡ string_bytes out.old ++ line_text below line.now) }
+{
+    let line = Escaped(line);
+    writeln!(out, "<tspan x=\"12\" dy=\"{below}\">{line}</tspan>")
+}
+
+/// The line, or what stands for an empty one.
+fn line_or<'a>(empty: &'a [u8], line: &'a [u8]) -> &'a [u8]
+    ensures { result.now ≡ line_or empty.now line.now }
+{
+    match line {
+        [] => empty,
+        _ => line,
+    }
+}
+
+/// Appends the lines of a text, each so far below the one before.
+fn write_lines(
+    out: &mut String,
+    below: usize,
+    empty: &[u8],
+    lines: &[&[u8]],
+) -> Result<(), AllocError>
+    ensures { OnOk result (string_bytes out.new
+        ≡ string_bytes out.old ++ lines_text below empty.now lines.now) }
+{
+    for line in lines {
+        write_line(out, below, line_or(empty, line))?;
+    }
     Ok(())
 }
 
-/// Appends the number of a line, and a line down through the rows.
-#[tactic(auto, unfolding(crate::specs::Svg::mark_text))]
-fn write_mark(out: &mut String, x: usize, bottom: usize, line: usize) -> Result<(), AllocError>
-    ensures { OnOk result (string_bytes out.new
-        ≡ string_bytes out.old ++ mark_text x bottom line) }
+/// Appends the names of all callers, one a row. Calls alone have no caller.
+#[tactic(auto, unfolding(crate::specs::Svg::names_text))]
+pub(super) fn write_names(out: &mut String, names: &[&[u8]]) -> Result<(), AllocError>
+    ensures { OnOk result (string_bytes out.new ≡ string_bytes out.old ++ names_text names.now) }
 {
-    writeln!(
-        out,
-        "<path class=\"mark\" d=\"M{x} 48V{bottom}\"/><text class=\"line\" x=\"{x}\" y=\"62\" dx=\"5\">{line}</text>"
-    )
+    out.push_str("<text class=\"name\" y=\"39\">\n")?;
+    write_lines(out, 64, b"(alone)", names)?;
+    out.push_str("</text>\n")
 }
 
-/// Appends the marks of the lines in which a call begins and ends.
-#[tactic(auto, unfolding(crate::specs::Svg::marks_text))]
-pub(super) fn write_marks(
-    out: &mut String,
-    bars: &[Bar<'_>],
-    bottom: usize,
-    bar: &Bar<'_>,
-) -> Result<(), AllocError>
-    requires { length bars.now ≤ 200 }
-    ensures { OnOk result (string_bytes out.new
-        ≡ string_bytes out.old ++ marks_text bars.now bottom bar.now) }
+/// Appends how many more configurations there are, and the end of the document.
+#[tactic(auto, unfolding(crate::specs::Svg::tail_text))]
+fn write_tail(out: &mut String, more: usize) -> Result<(), AllocError>
+    ensures { OnOk result (string_bytes out.new ≡ string_bytes out.old ++ tail_text more) }
 {
-    write_mark(out, left(bars, bar.begin), bottom, bar.begin)?;
-    match own_end(bar) {
-        Some(line) => write_mark(out, left(bars, line), bottom, line),
-        None => Ok(()),
+    match more {
+        0 => out.push_str("</text>\n</svg>\n"),
+        _ => writeln!(
+            out,
+            "<tspan x=\"12\" dy=\"18\">and {more} more configurations</tspan>\n</text>\n</svg>"
+        ),
     }
 }
 
-/// The name by which a row is labelled: calls alone have no caller.
-fn label(name: &[u8]) -> &[u8]
-    ensures { result.now ≡ label name.now }
-{
-    match name {
-        [] => b"(alone)",
-        _ => name,
-    }
-}
+/// How many lines of a report stand below a picture at most: the reply, its call, the window and
+/// the needed calls, a line each, and four for each of eight configurations.
+pub(super) const MAX_NOTES: usize = 36;
 
-/// Appends the name of a caller, one row below the one before.
-#[tactic(auto, unfolding(crate::specs::Svg::name_text))]
-pub(super) fn write_name(out: &mut String, name: &[u8]) -> Result<(), AllocError>
-    ensures { OnOk result (string_bytes out.new ≡ string_bytes out.old ++ name_text name.now) }
+/// Appends the lines of a report as far as they are shown, how many more configurations there are,
+/// and the end of the document.
+#[tactic(auto, unfolding(crate::specs::Svg::notes_text))]
+pub(super) fn write_notes(out: &mut String, notes: &[&[u8]], y: usize) -> Result<(), AllocError>
+    ensures { OnOk result (string_bytes out.new ≡ string_bytes out.old ++ notes_text notes.now y) }
 {
-    write_element(out, "<tspan x=\"12\" dy=\"64\">", label(name), "</tspan>\n")
-}
-
-/// Appends a line of the report, below the one before.
-#[tactic(auto, unfolding(crate::specs::Svg::note_text))]
-pub(super) fn write_note(out: &mut String, note: &[u8]) -> Result<(), AllocError>
-    ensures { OnOk result (string_bytes out.new ≡ string_bytes out.old ++ note_text note.now) }
-{
-    write_element(out, "<tspan x=\"12\" dy=\"18\">", note, "</tspan>\n")
-}
-
-/// Appends how many further configurations there are.
-#[tactic(auto, unfolding(crate::specs::Svg::more_text))]
-pub(super) fn write_more(out: &mut String, more: usize) -> Result<(), AllocError>
-    ensures { OnOk result (string_bytes out.new ≡ string_bytes out.old ++ more_text more) }
-{
-    if more == 0 {
-        return Ok(());
-    }
-    writeln!(
-        out,
-        "<tspan x=\"12\" dy=\"18\">and {more} more configurations</tspan>"
-    )
+    writeln!(out, "<text y=\"{y}\">")?;
+    write_lines(out, 18, b"", &notes[..notes.len().min(MAX_NOTES)])?;
+    write_tail(out, notes.len().saturating_sub(MAX_NOTES) / 4)
 }

@@ -1,4 +1,4 @@
-use Rattle.std.proofs.Common.{List, arith, inl, inr, subst, sym}
+use Rattle.std.proofs.Common.{List, inl, inr, subst, sym}
 use Rattle.std.specs.Prelude.{All}
 use Rattle.std.proofs.lemmas.List.Elements.{All-nil}
 use Rattle.std.proofs.lemmas.Result.{IfOk-weaker}
@@ -7,17 +7,11 @@ use Rattle.history_drawing.specs.Timelines.{IsPoint}
 use Rattle.history_drawing.specs.declared.timeline.Point.{Point}
 use Rattle.history_drawing.proofs.drawing.draw_refused.Goals as goal
 
-pub timeline_of-requires : goal.timeline_of-requires
-timeline_of-requires c =
-    let w = c.in_ok-window.ensures c.args.log.now
-    (rw c.as_slice-lines.ensures.value c.in_ok-lines.ensures) in
-    omega (arith, w.first, w.last, c.requires.order)
-
 pub drawn-requires : goal.drawn-requires
 drawn-requires c =
     let shown = rw c.in-Some.is at c.in_ok-timeline.ensures.some in
     let t = c.in-Some.timeline in
-    drawable _ c.in_ok-window.window t shown.bars
+    drawable _ c.in_ok-window.window _ t shown.bars
     (subst (λ (l : List Point). All (IsPoint t.bars.items) l) (sym shown.points)
     (All-nil (IsPoint t.bars.items)))
 

@@ -1,4 +1,4 @@
-use Rattle.std.proofs.Common.{ℕ, List, None, inl, inr, length, refl, subst, sym}
+use Rattle.std.proofs.Common.{◌≡◌, ℕ, ◌-◌, List, None, inl, inr, length, refl, rules, subst, sym}
 use Rattle.std.specs.Prelude.{◌<◌, AllPairs}
 use Rattle.std.specs.Borrow.{Bor}
 use Rattle.std.proofs.lemmas.Result.{IfOk-weaker}
@@ -10,13 +10,13 @@ use Rattle.history_drawing.specs.declared.timeline.Timeline.{Timeline}
 use Rattle.history_drawing.specs.declared.timeline.Window.{Window}
 use Rattle.history_drawing.proofs.drawing.draw_whole.Goals as goal
 
--- all lines
-abbrev all : List (Bor (List ℕ)) → Window
-all lines = record { first = 0; last = length lines; wanted = None; service = None }
+-- all lines up to this one
+abbrev all : ℕ → Window
+all last = record { first = 0; last = last; wanted = None; service = None }
 
-whole : (log : List ℕ) (lines : List (Bor (List ℕ))) → AreLines log lines
-    → IsWhole log lines (all lines)
-whole log lines are = record { are = are; first = refl; last = refl; wanted = refl }
+whole : (log : List ℕ) (lines : List (Bor (List ℕ))) (last : ℕ) → AreLines log lines
+    → last ≡ length lines - 1 → IsWhole log lines (all last)
+whole log lines last are is = record { are = are; first = refl; last = is; wanted = refl }
 
 pub points_of-requires : goal.points_of-requires
 points_of-requires c =
@@ -29,27 +29,27 @@ drawn-requires c =
     let shown = rw c.in-Some.is at c.in_ok-timeline.ensures.some in
     let points = c.in_ok-timeline-2.field-0 in
     let t : Timeline = record c.in-Some.timeline { points = points } in
-    drawable c.as_slice-lines.result.now (all c.as_slice-lines.result.now) t shown.bars
+    drawable c.as_slice-lines.result.now (all c.saturating_sub.result) _ t shown.bars
     (in_bars t.bars.items c.deref-2.result.now points.items
     (rw c.deref.ensures.value at c.in_ok-timeline-2.ensures))
 
 pub returns-in_default : goal.returns-in_default
 returns-in_default c =
     let many = rw c.in_default.is at c.in_ok-timeline.ensures.none in
-    let is = whole c.args.log.now c.as_slice-lines.result.now
-    (rw c.as_slice-lines.ensures.value c.in_ok-lines.ensures) in
+    let is = whole c.args.log.now c.as_slice-lines.result.now c.saturating_sub.result
+    (rw c.as_slice-lines.ensures.value c.in_ok-lines.ensures) (search rules) in
     IfOk-weaker _ _ _ (λ d h. inl (h, (_, _, is, many))) c.undrawn.ensures
 
 pub returns : goal.returns
 returns c =
     let shown = rw c.in-Some.is at c.in_ok-timeline.ensures.some in
-    let is = whole c.args.log.now c.as_slice-lines.result.now
-    (rw c.as_slice-lines.ensures.value c.in_ok-lines.ensures) in
+    let is = whole c.args.log.now c.as_slice-lines.result.now c.saturating_sub.result
+    (rw c.as_slice-lines.ensures.value c.in_ok-lines.ensures) (search rules) in
     IfOk-weaker _ _ _ (λ d h. inr (
       h.0,
       record {
         lines = c.as_slice-lines.result.now;
-        w = all c.as_slice-lines.result.now;
+        w = all c.saturating_sub.result;
         whole = is;
         t = record c.in-Some.timeline { points = c.in_ok-timeline-2.field-0 };
         bars = shown.bars;

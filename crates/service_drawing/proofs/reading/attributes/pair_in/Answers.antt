@@ -1,4 +1,4 @@
-use Rattle.service_drawing.proofs.Attributes.{no_key_of, no_value_of, no_name_of}
+use Rattle.service_drawing.proofs.Attributes.{no_name_of, no_pair_of}
 use Rattle.service_drawing.proofs.reading.attributes.pair_in.Goals as goal
 
 pub returns-in_default : goal.returns-in_default
@@ -8,9 +8,9 @@ returns-in_default c pair is e =
 pub returns-in_default-new : goal.returns-in_default-new
 returns-in_default-new c =
     let read = c.in-Some.ensures.read in
-    no_key_of _ _ _ read.0 read.1 (no_name_of 64 _ _ c.in_default-new.ensures)
+    no_pair_of _ _ _ read.0 read.1 (λ both. no_name_of 64 _ _ c.in_default-new.ensures both.0)
 
 pub returns-in-Err : goal.returns-in-Err
 returns-in-Err c =
     let read = c.in-Some.ensures.read in
-    no_value_of _ _ _ read.0 read.1 (no_name_of 256 _ _ c.in-Err.ensures)
+    no_pair_of _ _ _ read.0 read.1 (λ both. no_name_of 256 _ _ c.in-Err.ensures both.1)
