@@ -1,11 +1,12 @@
 //! What is found in a file of settings, in texts that stand in one line, and where its keys stand.
 ghost use Rattle.std.specs.Prelude.{◌≡◌, ◌++◌, ◌∷◌, [], IfOk, IsSome, None, Some, map};
 ghost use Rattle.std.specs.Prelude.{option_map, slice_index_or, string_bytes};
+ghost use Rattle.iox2_config_file.specs.Settings.{table_path};
 ghost use Rattle.iox2_config_file.specs.Unknown.{proposal_view};
 ghost use Rattle.config_report.specs.Findings.{sort_key_of, IsToml};
 ghost use Rattle.config_report.specs.Notes.{at_text, fault_topic, finding_view, has_no_control};
 ghost use Rattle.config_report.specs.Notes.{in_line, meant_text, note, note_text, position_for};
-ghost use Rattle.config_report.specs.Notes.{proposed_text, severity_text, table_path, topic_note};
+ghost use Rattle.config_report.specs.Notes.{proposed_text, severity_text, topic_note};
 ghost use Rattle.config_report.specs.Notes.{topic_path, topic_position, unknown_topic};
 ghost use Rattle.toml.specs.Parse.{parse_document};
 ghost use Rattle.toml_positions.specs.Written.{path_view, position_in};
