@@ -80,22 +80,15 @@ response_limits_of d =
 abbrev pub all_limits : ℕ → List ℕ → List ℕ
 all_limits ports limits = concat (replicate ports limits)
 
--- the line of a setting whose value is its default: its path and its value
-abbrev pub usual_line : Section → List ℕ → SettingValue → List ℕ
-usual_line s key value =
-    codes "  " ++ (prefix_of s ++ (key ++ (codes " = " ++ (value_text value ++ codes "\n"))))
-
--- the line of one whose value is another: with a mark, and with the default
-abbrev pub marked_line : Section → List ℕ → SettingValue → SettingValue → List ℕ
-marked_line s key value default =
-    codes "! " ++ (prefix_of s ++ (key ++ (codes " = " ++ (value_text value
-    ++ (codes ", by default " ++ (value_text default ++ codes "\n"))))))
-
--- the line of a setting: it has a mark exactly where its value differs from the default
+-- the line of a setting: its path and its value, and exactly where its value differs from the
+-- default a mark and the default
 unfoldable pub setting_line : Section → ValuePair → List ℕ
 setting_line s p =
-    if is_same p.value p.other then usual_line s p.key p.value
-    else marked_line s p.key p.value p.other
+    if is_same p.value p.other
+    then
+    codes "  " ++ (prefix_of s ++ (p.key ++ (codes " = " ++ (value_text p.value ++ codes "\n"))))
+    else codes "! " ++ (prefix_of s ++ (p.key ++ (codes " = " ++ (value_text p.value
+    ++ (codes ", by default " ++ (value_text p.other ++ codes "\n"))))))
 
 -- a name, filled with spaces to 22 characters
 abbrev pub padded_name : List ℕ → List ℕ
