@@ -99,7 +99,8 @@ pub fn pair_at<'a>(
 ) -> Option<ValuePair<'a>>
     requires rows { map row_view rows.now ≡ rows_in section one.now }
     requires inside { index < length rows.now }
-    ensures { option_map value_pair result ≡ slice_get (value_pairs one.now other.now section) index }
+    ensures { option_map value_pair result
+        ≡ slice_get (value_pairs one.now other.now section) index }
 {
     let value = value_at(one, section, index)?;
     let other = value_at(other, section, index)?;

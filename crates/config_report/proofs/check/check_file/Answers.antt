@@ -11,5 +11,6 @@ returns-in_ok-push-in-Err c =
       no_file = c.in_ok-finding-in-Err.ensures c.args.bytes.now c.in-Err.ensures.err;
       config = refl;
       list = ap (λ l. map finding_view l)
-          (c.in_ok-push-in-Err.ensures.items ∙ ap (λ l. l ++ finding ∷ []) c.new-list.ensures.items);
+          (c.in_ok-push-in-Err.ensures.items
+          ∙ ap (λ l. l ++ finding ∷ []) c.new-list.ensures.items);
     })
