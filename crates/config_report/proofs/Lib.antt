@@ -2,3 +2,4 @@ mod AllPorts
 pub mod Lines
 pub mod Pairs
 mod Printable
+mod Same

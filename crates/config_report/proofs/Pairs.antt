@@ -1,70 +1,88 @@
--- What the settings of two configurations give, one after the other.
-use Rattle.std.proofs.Common.{◌≡◌, ℕ, ◌+◌, ◌≤◌, List, [], ◌∷◌, ◌++◌, length, map, drop, slice_get, Some, None, refl, sym, ap, ◌∙◌, subst, add-one, append_assoc, append-nil, arith, length-append, drop_of_length-le}
+-- The settings of two configurations, one after the other.
+use Rattle.std.proofs.Common.{◌≡◌, ℕ, zero, suc, ◌+◌, ◌≤◌, List, [], ◌∷◌, ◌++◌, length, map, drop, slice_get, Option, Some, None, refl, sym, add-one, append_assoc, append-nil, arith, length-append}
+use Rattle.std.specs.Prelude.{flat_map}
 use Rattle.std.proofs.lemmas.List.{length-map}
+use Rattle.std.proofs.lemmas.Option.{none-some, slice_get_past}
 use Rattle.iox2_config_file.specs.declared.fault.Kind.{Kind}
 use Rattle.iox2_config_file.specs.declared.section.Row.{Row}
 use Rattle.iox2_config_file.specs.Read.{row_view}
 use Rattle.iox2_config_file.specs.Settings.{Setting, held_at}
 use Rattle.iox2_config_file.specs.Values.{SettingValue}
-use Rattle.iox2_config_file.proofs.Rowed.{past, here, keyed, row_key}
-use Rattle.config_report.specs.Text.{Adds, SettingsGive}
+use Rattle.iox2_config_file.proofs.Rowed.{here, keyed, row_key}
+use Rattle.config_report.specs.Text.{ValuePair, paired}
 
--- no settings give nothing
-no_settings : {A : Type 0} (Gives : Setting → Setting → List A → Type 0) (ys : List Setting)
-    → SettingsGive Gives [] ys []
-no_settings Gives [] = refl
-no_settings Gives (y ∷ ys) = refl
+abbrev pub make_pair : List ℕ → SettingValue → SettingValue → ValuePair
+make_pair key value other = record { key = key; value = value; other = other }
 
--- what the settings from one on give follows what those before it gave
-abbrev pub Follows : {A : Type 0} → (Setting → Setting → List A → Type 0) → List Setting
-    → List Setting → ℕ → List A → Type 0
-Follows {A} Gives xs ys i done =
-    (more : List A) → SettingsGive Gives (drop i xs) (drop i ys) more
-    → SettingsGive Gives xs ys (done ++ more)
+-- a setting beside its value in the other configuration
+abbrev beside : Option Setting → Option SettingValue → Option ValuePair
+beside (Some x) (Some other) = Some (make_pair x.key x.value other)
+beside _ _ = None
 
--- one setting more
-pub setting_next : {A : Type 0} (Gives : Setting → Setting → List A → Type 0) (rows : List Row)
-    (xs ys : List Setting) (keys : List (List ℕ × Kind)) (i : ℕ) (r : Row)
-    (value other : SettingValue) (before old new done : List A)
-    → map row_view rows ≡ map keyed xs ++ keys → slice_get rows i ≡ Some r
-    → held_at xs i ≡ Some value → held_at ys i ≡ Some other
-    → Adds Gives r.key.now value other old new → old ≡ before ++ done → Follows Gives xs ys i done
-    → (all : List A) × (new ≡ before ++ all) × Follows Gives xs ys (i + 1) all
-setting_next Gives rows xs ys keys i r v w before old new done same row at_x at_y adds was h =
-    let (x, split_x, is_x, there) = here xs i v at_x in
-    let (y, split_y, is_y, _) = here ys i w at_y in
-    let key : x.key ≡ r.key.now = sym (row_key rows xs keys i x r same there row) in
-    let (line, now, is) = adds x y key is_x is_y in
-    let first : drop i xs ≡ x ∷ drop (i + 1) xs = rw add-one split_x in
-    let second : drop i ys ≡ y ∷ drop (i + 1) ys = rw add-one split_y in (
-      done ++ line,
-      now ∙ ap (λ l. l ++ line) was ∙ append_assoc before done line,
-      λ more lines.
-          let both : SettingsGive Gives (x ∷ drop (i + 1) xs) (y ∷ drop (i + 1) ys) (line ++ more) =
-          (line, more, refl, is, lines) in
-          let one = subst (λ l. SettingsGive Gives l (y ∷ drop (i + 1) ys) (line ++ more))
-          (sym first) both in
-          let two = subst (λ l. SettingsGive Gives (drop i xs) l (line ++ more)) (sym second) one in
-          subst (λ l. SettingsGive Gives xs ys l) (sym (append_assoc done line more))
-          (h (line ++ more) two),
-    )
+none_beside : (o : Option Setting) → None ≡ beside o None
+none_beside None = refl
+none_beside (Some x) = refl
 
--- where the first has no setting left, all was given
-ends : {A : Type 0} (Gives : Setting → Setting → List A → Type 0) (xs ys : List Setting) (i : ℕ)
-    (done : List A) → Follows Gives xs ys i done → drop i xs ≡ [] → SettingsGive Gives xs ys done
-ends Gives xs ys i done h none =
-    subst (λ l. SettingsGive Gives xs ys l) (append-nil done)
-    (h [] (subst (λ l. SettingsGive Gives l (drop i ys) []) (sym none)
-    (no_settings Gives (drop i ys))))
+pair_is : (xs ys : List Setting) (i : ℕ)
+    → slice_get (paired xs ys) i ≡ beside (slice_get xs i) (held_at ys i)
+pair_is [] ys i = refl
+pair_is (x ∷ xs) [] i = none_beside (slice_get (x ∷ xs) i)
+pair_is (x ∷ xs) (y ∷ ys) zero = refl
+pair_is (x ∷ xs) (y ∷ ys) (suc i) = pair_is xs ys i
 
-pub ends_past : {A : Type 0} (Gives : Setting → Setting → List A → Type 0) (xs ys : List Setting)
-    (i : ℕ) (done : List A) → Follows Gives xs ys i done → held_at xs i ≡ None
-    → SettingsGive Gives xs ys done
-ends_past Gives xs ys i done h at = ends Gives xs ys i done h (past xs i at)
+none_at : (xs : List Setting) (i : ℕ) → None ≡ held_at xs i → slice_get xs i ≡ None
+none_at [] i none = refl
+none_at (x ∷ xs) zero none = absurd (none-some x.value none)
+none_at (x ∷ xs) (suc i) none = none_at xs i none
 
-pub ends_at_rows : {A : Type 0} (Gives : Setting → Setting → List A → Type 0) (rows : List Row)
-    (xs ys : List Setting) (keys : List (List ℕ × Kind)) (i : ℕ) (done : List A)
-    → map row_view rows ≡ map keyed xs ++ keys → length rows ≤ i → Follows Gives xs ys i done
-    → SettingsGive Gives xs ys done
-ends_at_rows Gives rows xs ys keys i done same past_rows h =
-    grind (arith, length-map, length-append, keyed, ends, drop_of_length-le)
+-- the pair of this number, if both configurations have the setting
+pub pair_here : (rows : List Row) (xs ys : List Setting) (more : List (List ℕ × Kind)) (i : ℕ)
+    (r : Row) (v w : SettingValue) → map row_view rows ≡ map keyed xs ++ more
+    → slice_get rows i ≡ Some r → Some v ≡ held_at xs i → Some w ≡ held_at ys i
+    → Some (make_pair r.key.now v w) ≡ slice_get (paired xs ys) i
+pair_here rows xs ys more i r v w same row at there =
+    let (x, _, value, found) = here xs i v (sym at) in
+    let key = row_key rows xs more i x r same found row in
+    grind (arith, pair_is)
+
+pub no_value : (xs ys : List Setting) (i : ℕ) → None ≡ held_at xs i
+    → None ≡ slice_get (paired xs ys) i
+no_value xs ys i none = rw (pair_is xs ys i, none_at xs i none) refl
+
+pub no_other : (xs ys : List Setting) (i : ℕ) → None ≡ held_at ys i
+    → None ≡ slice_get (paired xs ys) i
+no_other xs ys i none = rw (pair_is xs ys i, ← none) (none_beside (slice_get xs i))
+
+drop_past : {X : Type 0} (xs : List X) (i : ℕ) → None ≡ slice_get xs i → drop i xs ≡ []
+drop_past [] zero none = refl
+drop_past [] (suc i) none = refl
+drop_past (x ∷ xs) zero none = absurd (none-some x none)
+drop_past (x ∷ xs) (suc i) none = drop_past xs i none
+
+drop_at : {X : Type 0} (xs : List X) (i : ℕ) (x : X) → Some x ≡ slice_get xs i
+    → drop i xs ≡ x ∷ drop (suc i) xs
+drop_at [] i x at = absurd (none-some x (sym at))
+drop_at (y ∷ xs) zero x at = cc
+drop_at (y ∷ xs) (suc i) x at = drop_at xs i x at
+
+-- what is made of one thing more was added
+pub walk_next : {P A : Type 0} (f : P → List A) (ps : List P) (i : ℕ) (p : P)
+    (out new whole : List A) → Some p ≡ slice_get ps i
+    → out ++ flat_map f (drop i ps) ≡ whole → new ≡ out ++ f p
+    → new ++ flat_map f (drop (i + 1) ps) ≡ whole
+walk_next f ps i p out new whole at before now = grind (arith, add-one, append_assoc, drop_at)
+
+-- past the last thing nothing is added
+pub walk_past : {P A : Type 0} (f : P → List A) (ps : List P) (i : ℕ) (out whole : List A)
+    → None ≡ slice_get ps i → out ++ flat_map f (drop i ps) ≡ whole → out ≡ whole
+walk_past f ps i out whole none before = grind (arith, append-nil, drop_past)
+
+-- there are no more settings than rows
+pub walk_end : {A : Type 0} (f : ValuePair → List A) (rows : List Row) (xs ys : List Setting)
+    (more : List (List ℕ × Kind)) (i : ℕ) (out whole : List A)
+    → map row_view rows ≡ map keyed xs ++ more → length rows ≤ i
+    → out ++ flat_map f (drop i (paired xs ys)) ≡ whole → out ≡ whole
+walk_end f rows xs ys more i out whole same past_rows before =
+    let none : slice_get xs i ≡ None =
+    slice_get_past xs i (grind (arith, length-map, length-append)) in
+    walk_past f (paired xs ys) i out whole (rw (pair_is xs ys i, none) refl) before

@@ -7,12 +7,12 @@ use Rattle.iox2_config.specs.declared.config.defaults.Defaults.{Defaults}
 use Rattle.iox2_config.specs.declared.config.event.Event.{Event}
 use Rattle.iox2_config.specs.declared.config.publish_subscribe.PublishSubscribe.{PublishSubscribe}
 use Rattle.iox2_config.specs.declared.config.service.Service.{Service}
-use Rattle.iox2_config_file.specs.Settings.{prefix_of}
+use Rattle.iox2_config_file.specs.Settings.{prefix_of, table_path}
 use Rattle.iox2_config_file.specs.Values.{SettingValue, number, text}
 use Rattle.iox2_config_file.specs.Write.{value_text, value_view}
 use Rattle.iox2_config_file.specs.declared.section.Section.{Section}
 use Rattle.iox2_config_file.specs.declared.section.Section.TheVariants as section
-use Rattle.config_report.specs.Notes.{Note, note, position_for, table_path}
+use Rattle.config_report.specs.Notes.{Note, note, position_for}
 use Rattle.config_report.specs.declared.contradiction.Contradiction.{Contradiction as Held}
 use Rattle.config_report.specs.declared.contradiction.Effect.{Effect}
 use Rattle.config_report.specs.declared.contradiction.Effect.TheVariants.{UnsentEvent, ManyRoots, SameNames, LongNames, SmallBuffer, UselessLimit}

@@ -1,14 +1,12 @@
 -- What is said of a file of settings, and where in it the keys stand.
 use Rattle.std.specs.Prelude.{ℕ, List, [], ◌∷◌, ◌++◌, codes, length, nat_le, if◌then◌else◌, Option, Some, None, Bool, option_map, string_bytes}
 use Rattle.std.specs.Fmt.{decimal}
-use Rattle.iox2_config_file.specs.declared.section.Section.{Section}
-use Rattle.iox2_config_file.specs.declared.section.Section.TheVariants as section
 use Rattle.toml_positions.specs.declared.position.Position.{Position}
 use Rattle.toml_positions.specs.Written.{position_in}
 use Rattle.std.specs.List.{list_all}
 use Rattle.iox2_config_file.specs.Read.{reason_text, Located, fault_view}
 use Rattle.iox2_config_file.specs.Unknown.{Proposed, Unknown, unknown_view}
-use Rattle.iox2_config_file.specs.Settings.{prefix_of}
+use Rattle.iox2_config_file.specs.Settings.{prefix_of, table_path}
 use Rattle.iox2_config_file.specs.declared.fault.SettingFault.{SettingFault}
 use Rattle.iox2_config_file.specs.declared.proposal.Likeness.TheVariants.{Quoted}
 use Rattle.iox2_config_file.specs.declared.unknown.UnknownKey.{UnknownKey}
@@ -16,18 +14,6 @@ use Rattle.config_report.specs.declared.finding.Finding.{Finding}
 use Rattle.config_report.specs.declared.finding.Severity.{Severity}
 use Rattle.config_report.specs.declared.finding.Severity.TheVariants.{Error, Warning}
 use Rattle.toml_writer.specs.Text.{key_text}
-
--- the keys that lead to a table
-abbrev pub table_path : Section → List (List ℕ)
-table_path section.Root = []
-table_path section.Global = codes "global" ∷ []
-table_path section.Service = codes "global" ∷ codes "service" ∷ []
-table_path section.Node = codes "global" ∷ codes "node" ∷ []
-table_path section.Defaults = codes "defaults" ∷ []
-table_path section.PublishSubscribe = codes "defaults" ∷ codes "publish-subscribe" ∷ []
-table_path section.Event = codes "defaults" ∷ codes "event" ∷ []
-table_path section.RequestResponse = codes "defaults" ∷ codes "request-response" ∷ []
-table_path section.Blackboard = codes "defaults" ∷ codes "blackboard" ∷ []
 
 -- the position of a path in a file of at most 128 KiB, if an expression writes it
 abbrev pub position_for : List ℕ → List (List ℕ) → Option Position

@@ -1,9 +1,12 @@
 -- The text of settings, and of what follows from them.
-use Rattle.std.specs.Prelude.{◌≡◌, ℕ, List, [], ◌∷◌, ◌++◌, replicate, ◌≢◌, ◌⊎◌, ◌-◌, ◌^◌, codes, flat_map, length, nat_lt, if◌then◌else◌, Option, Some, None}
+use Rattle.std.specs.Prelude.{◌≡◌, ℕ, Bool, true, false, not, bytes_eq, nat_eq, List, [], ◌∷◌, ◌++◌, replicate, ◌-◌, ◌^◌, codes, flat_map, length, nat_lt, if◌then◌else◌, Option, Some, None}
 use Rattle.iox2_config.specs.declared.config.Config.{Config}
+use Rattle.iox2_config.specs.declared.config.choices.AllocationStrategy.TheVariants.{BestFit, PowerOfTwo, Static}
+use Rattle.iox2_config.specs.declared.config.choices.BackpressureStrategy.TheVariants.{RetryUntilDelivered, DiscardData}
 use Rattle.iox2_config_file.specs.declared.section.Section.{Section}
-use Rattle.iox2_config_file.specs.Settings.{Setting, settings_in, prefix_of}
+use Rattle.iox2_config_file.specs.Settings.{Setting, prefix_of, settings_in}
 use Rattle.iox2_config_file.specs.Values.{SettingValue}
+use Rattle.iox2_config_file.specs.Values as values
 use Rattle.std.specs.List.{concat}
 use Rattle.iox2_config.specs.declared.config.defaults.Defaults.{Defaults}
 use Rattle.iox2_static.specs.PublishSubscribe.{publish_subscribe_of, sample_limits}
@@ -13,34 +16,47 @@ use Rattle.iox2_config.specs.Defaults.{IsDefaultConfig}
 use Rattle.iox2_config.specs.declared.config.node.Node.{Node}
 use Rattle.iox2_config.specs.declared.config.service.Service.{Service}
 use Rattle.iox2_config_file.specs.Read.{sections}
-use Rattle.iox2_config_file.specs.Write.{value_text, InTurn}
+use Rattle.iox2_config_file.specs.Write.{value_text, value_view}
 use Rattle.iox2_static.specs.Chunks.{ReportsGreatest}
 use Rattle.iox2_texts.specs.Path.{join}
 use Rattle.config_report.specs.declared.text.FileKind.{FileKind}
+use Rattle.config_report.specs.declared.text.ValuePair.{ValuePair as HeldPair}
 
--- what the settings of a table give, one after the other, each beside that of the same key
-abbrev pub SettingsGive : {A : Type 0} → (Setting → Setting → List A → Type 0) → List Setting
-    → List Setting → List A → Type 0
-SettingsGive {A} Gives (x ∷ xs) (y ∷ ys) all =
-    (first : List A) × (more : List A) × (all ≡ first ++ more) × Gives x y first
-    × SettingsGive Gives xs ys more
-SettingsGive Gives _ _ all = all ≡ []
+-- the values are equal
+abbrev pub is_same : SettingValue → SettingValue → Bool
+is_same (values.number n) (values.number m) = nat_eq n m
+is_same (values.flag true) (values.flag b) = b
+is_same (values.flag false) (values.flag b) = not b
+is_same (values.text s) (values.text t) = bytes_eq s t
+is_same (values.backpressure RetryUntilDelivered) (values.backpressure RetryUntilDelivered) = true
+is_same (values.backpressure DiscardData) (values.backpressure DiscardData) = true
+is_same (values.allocation BestFit) (values.allocation BestFit) = true
+is_same (values.allocation PowerOfTwo) (values.allocation PowerOfTwo) = true
+is_same (values.allocation Static) (values.allocation Static) = true
+is_same (values.duration n) (values.duration m) = nat_eq n m
+is_same values.absent values.absent = true
+is_same values.settings values.settings = true
+is_same _ _ = false
 
--- what all settings of some tables give, in the order of the tables
-abbrev pub TableGives : {A : Type 0} → (Section → Setting → Setting → List A → Type 0) → Config
-    → Config → Section → List A → Type 0
-TableGives Gives a b s = SettingsGive (Gives s) (settings_in s a) (settings_in s b)
+-- a setting in two configurations: its key, its value, and that in the other one
+pub record ValuePair : Type 0 where
+  pub key : List ℕ
+  pub value : SettingValue
+  pub other : SettingValue
 
-abbrev pub TablesGive : {A : Type 0} → (Section → Setting → Setting → List A → Type 0) → Config
-    → Config → List Section → List A → Type 0
-TablesGive Gives a b = InTurn (TableGives Gives a b)
+-- the same, as the code holds it
+abbrev pub value_pair : HeldPair → ValuePair
+value_pair p = record { key = p.key.now; value = value_view p.value; other = value_view p.other }
 
--- what a setting of this key and this value gives, beside this other value, is added
-abbrev pub Adds : {A : Type 0} → (Setting → Setting → List A → Type 0) → List ℕ → SettingValue
-    → SettingValue → List A → List A → Type 0
-Adds {A} Gives key value other old new =
-    (x : Setting) (y : Setting) → x.key ≡ key → x.value ≡ value → y.value ≡ other
-    → (more : List A) × (new ≡ old ++ more) × Gives x y more
+-- settings beside those of another configuration
+abbrev pub paired : List Setting → List Setting → List ValuePair
+paired (x ∷ xs) (y ∷ ys) =
+    record { key = x.key; value = x.value; other = y.value } ∷ paired xs ys
+paired _ _ = []
+
+-- the settings of a table in two configurations
+abbrev pub value_pairs : Config → Config → Section → List ValuePair
+value_pairs one other s = paired (settings_in s one) (settings_in s other)
 
 -- the limits on the samples of a publisher
 abbrev pub sample_limits_of : Defaults → List ℕ
@@ -64,22 +80,15 @@ response_limits_of d =
 abbrev pub all_limits : ℕ → List ℕ → List ℕ
 all_limits ports limits = concat (replicate ports limits)
 
--- the line of a setting whose value is its default: its path and its value
-abbrev pub usual_line : Section → List ℕ → SettingValue → List ℕ
-usual_line s key value =
-    codes "  " ++ (prefix_of s ++ (key ++ (codes " = " ++ (value_text value ++ codes "\n"))))
-
--- the line of one whose value is another: with a mark, and with the default
-abbrev pub marked_line : Section → List ℕ → SettingValue → SettingValue → List ℕ
-marked_line s key value default =
-    codes "! " ++ (prefix_of s ++ (key ++ (codes " = " ++ (value_text value
-    ++ (codes ", by default " ++ (value_text default ++ codes "\n"))))))
-
--- the line of a setting: it has a mark exactly where its value differs from the default
-abbrev pub IsSettingLine : Section → Setting → Setting → List ℕ → Type 0
-IsSettingLine s x default line =
-    ((x.value ≡ default.value) × (line ≡ usual_line s x.key x.value))
-    ⊎ ((x.value ≢ default.value) × (line ≡ marked_line s x.key x.value default.value))
+-- the line of a setting: its path and its value, and exactly where its value differs from the
+-- default a mark and the default
+unfoldable pub setting_line : Section → ValuePair → List ℕ
+setting_line s p =
+    if is_same p.value p.other
+    then
+    codes "  " ++ (prefix_of s ++ (p.key ++ (codes " = " ++ (value_text p.value ++ codes "\n"))))
+    else codes "! " ++ (prefix_of s ++ (p.key ++ (codes " = " ++ (value_text p.value
+    ++ (codes ", by default " ++ (value_text p.other ++ codes "\n"))))))
 
 -- a name, filled with spaces to 22 characters
 abbrev pub padded_name : List ℕ → List ℕ
@@ -166,19 +175,22 @@ IsNeedsText d text =
     ++ (publishers ++ (clients ++ (servers
     ++ codes "  event, blackboard      none: their ports send no messages\n"))))
 
--- all settings, each beside its default where it differs from that
-abbrev pub IsSettingsText : Config → Config → List ℕ → Type 0
-IsSettingsText default config text =
-    (lines : List ℕ)
-    × (text ≡ codes "settings, with ! where they differ from the defaults\n" ++ lines)
-    × TablesGive IsSettingLine config default sections lines
+-- the settings of a table, each beside its default where it differs from that
+unfoldable pub table_lines : Config → Config → Section → List ℕ
+table_lines default config s = flat_map (setting_line s) (value_pairs config default s)
+
+-- all settings
+abbrev pub settings_text : Config → Config → List ℕ
+settings_text default config =
+    codes "settings, with ! where they differ from the defaults\n"
+    ++ flat_map (table_lines default config) sections
 
 -- all settings, and the directories, the files and the chunks that follow
 abbrev pub IsReportOver : Config → Config → List ℕ → Type 0
 IsReportOver default config text =
-    (settings : List ℕ) × (needs : List ℕ)
-    × (text ≡ settings ++ (directories_text config ++ (files_text config ++ needs)))
-    × IsSettingsText default config settings × IsNeedsText config.defaults needs
+    (needs : List ℕ) × IsNeedsText config.defaults needs
+    × (text
+    ≡ settings_text default config ++ (directories_text config ++ (files_text config ++ needs)))
 
 -- the same, beside the defaults of the middleware
 abbrev pub IsReportText : Config → List ℕ → Type 0

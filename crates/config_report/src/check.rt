@@ -6,7 +6,7 @@ ghost use Rattle.iox2_config_file.specs.Answers.{ReadsAll};
 ghost use Rattle.iox2_config_file.specs.Depth.{too_deep};
 ghost use Rattle.config_report.specs.Contradictions.{contradiction_note, contradiction_view};
 ghost use Rattle.config_report.specs.Contradictions.{contradictions_in};
-ghost use Rattle.config_report.specs.Findings.{Checks, FindsInFile, FindsNoFile, Lists, topics_of};
+ghost use Rattle.config_report.specs.Findings.{Checks, Lists, topics_of};
 ghost use Rattle.config_report.specs.Notes.{finding_view, note, note_in};
 ghost use Rattle.config_report.specs.Findings.{IsNoFile, IsText, IsUnread, lines_of, ReadsFile};
 ghost use Rattle.config_report.specs.Findings.{HasDefaults};
@@ -36,30 +36,19 @@ pub fn check_file(alloc: Global, bytes: &[u8]) -> Result<Findings, AllocError>
     ensures { IfOk result (Checks bytes.now) }
 {
     match parse_file(alloc, bytes) {
-        Ok((text, contents)) => list_all(alloc, text, contents),
-        Err(unread) => alone(alloc, unread),
+        Ok((text, contents)) => {
+            let list = list_of(alloc, text, &contents)?;
+            Ok(Findings {
+                config: contents.config,
+                list,
+            })
+        }
+        Err(unread) => {
+            let mut list = Vec::new(alloc);
+            list.push(unread.finding()?)?;
+            Ok(Findings { config: None, list })
+        }
     }
-}
-
-/// What is found in bytes that are no file of settings.
-fn alone(alloc: Global, unread: Unread) -> Result<Findings, AllocError>
-    ensures { (bytes : List ℕ) → IsUnread bytes unread → IfOk result (FindsNoFile bytes) }
-{
-    let mut list = Vec::new(alloc);
-    list.push(unread.finding()?)?;
-    Ok(Findings { config: None, list })
-}
-
-/// All that is found in a file.
-fn list_all(alloc: Global, text: &str, contents: FileContents) -> Result<Findings, AllocError>
-    requires { IsText text.now }
-    ensures { ReadsAll text.now contents → IfOk result (FindsInFile text.now) }
-{
-    let list = list_of(alloc, text, &contents)?;
-    Ok(Findings {
-        config: contents.config,
-        list,
-    })
 }
 
 /// What is said of all that a text says, in the order of the file.

@@ -4,7 +4,7 @@ ghost use Rattle.config_report.specs.Contradictions.{beside_text, contradiction_
 ghost use Rattle.config_report.specs.Contradictions.{contradiction_view, effect_text, is_later};
 ghost use Rattle.config_report.specs.Contradictions.{other_view, side_note, side_view};
 ghost use Rattle.config_report.specs.Notes.{finding_view};
-ghost use Rattle.config_report.specs.Notes.{table_path};
+ghost use Rattle.iox2_config_file.specs.Settings.{table_path};
 ghost use Rattle.toml.specs.Parse.{parse_document};
 ghost use Rattle.toml_positions.specs.Written.{path_view};
 

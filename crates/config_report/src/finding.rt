@@ -1,11 +1,12 @@
 //! What is found in a file of settings, in texts that stand in one line, and where its keys stand.
 ghost use Rattle.std.specs.Prelude.{◌≡◌, ◌++◌, ◌∷◌, [], IfOk, IsSome, None, Some, map};
 ghost use Rattle.std.specs.Prelude.{option_map, slice_index_or, string_bytes};
+ghost use Rattle.iox2_config_file.specs.Settings.{table_path};
 ghost use Rattle.iox2_config_file.specs.Unknown.{proposal_view};
 ghost use Rattle.config_report.specs.Findings.{sort_key_of, IsToml};
 ghost use Rattle.config_report.specs.Notes.{at_text, fault_topic, finding_view, has_no_control};
 ghost use Rattle.config_report.specs.Notes.{in_line, meant_text, note, note_text, position_for};
-ghost use Rattle.config_report.specs.Notes.{proposed_text, severity_text, table_path, topic_note};
+ghost use Rattle.config_report.specs.Notes.{severity_text, topic_note};
 ghost use Rattle.config_report.specs.Notes.{topic_path, topic_position, unknown_topic};
 ghost use Rattle.toml.specs.Parse.{parse_document};
 ghost use Rattle.toml_positions.specs.Written.{path_view, position_in};
@@ -308,27 +309,6 @@ impl fmt::Display for TomlKey<'_> {
     }
 }
 
-/// A known key that was probably meant.
-#[derive(Clone, Copy)]
-struct Proposed(Proposal);
-
-impl fmt::Display for Proposed {
-    ghost output = { λ proposed. Some (proposed_text (proposal_view proposed.0)) };
-
-    fn fmt<W: fmt::Write>(&self, f: &mut fmt::Formatter<W>) -> fmt::Result {
-        let Proposal {
-            section,
-            key,
-            likeness,
-        } = self.0;
-        let prefix = section.prefix();
-        match likeness {
-            Likeness::Quoted => write!(f, "{prefix}{key} without the quotes may be meant"),
-            _ => write!(f, "{prefix}{key} may be meant"),
-        }
-    }
-}
-
 /// That a table has no such key, and what was probably meant.
 #[derive(Clone, Copy)]
 pub(crate) struct Meant(pub(crate) Option<Proposal>);
@@ -337,9 +317,17 @@ impl fmt::Display for Meant {
     ghost output = { λ meant. Some (meant_text (option_map proposal_view meant.0)) };
 
     fn fmt<W: fmt::Write>(&self, f: &mut fmt::Formatter<W>) -> fmt::Result {
-        match self.0 {
-            Some(proposal) => write!(f, "this table has no such key, {}", Proposed(proposal)),
-            None => f.write_str("this table has no such key"),
+        let Some(proposal) = self.0 else {
+            return f.write_str("this table has no such key");
+        };
+        let prefix = proposal.section.prefix();
+        let key = proposal.key;
+        match proposal.likeness {
+            Likeness::Quoted => write!(
+                f,
+                "this table has no such key, {prefix}{key} without the quotes may be meant"
+            ),
+            _ => write!(f, "this table has no such key, {prefix}{key} may be meant"),
         }
     }
 }

@@ -16,5 +16,5 @@ pub use check::{
     FileConfig, ReportError, Unread, check_file, default_file, parse_file, read_file, settings_text,
 };
 pub use finding::{Finding, Findings, Severity, Subject, key_positions, position_at, written_at};
-pub use text::{is_same, requests, responses, samples};
+pub use text::{ValuePair, is_same, pair_at, requests, responses, samples};
 pub use toml_positions::Position;

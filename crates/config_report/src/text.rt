@@ -1,11 +1,10 @@
 //! All settings, and the directories, the files and the chunks that follow, as text.
-ghost use Rattle.std.specs.Prelude.{◌≡◌, ◌++◌, ◌↔◌, ℕ, List, IsTrue, OnOk, Some, string_bytes};
-ghost use Rattle.std.specs.Prelude.{map, flat_map};
-ghost use Rattle.iox2_config_file.specs.Read.{sections};
-ghost use Rattle.iox2_config_file.specs.Settings.{settings_in};
+ghost use Rattle.std.specs.Prelude.{◌≡◌, ◌<◌, ◌++◌, ◌↔◌, ℕ, List, IsTrue, OnOk, Some, string_bytes};
+ghost use Rattle.std.specs.Prelude.{length, map, flat_map, option_map, slice_get};
+ghost use Rattle.iox2_config_file.specs.Read.{row_view, rows_in, sections};
 ghost use Rattle.iox2_config_file.specs.Write.{value_view};
-ghost use Rattle.config_report.specs.Text.{Adds, SettingsGive, TablesGive, IsSettingLine};
-ghost use Rattle.config_report.specs.Text.{IsReportOver, usual_line, marked_line};
+ghost use Rattle.config_report.specs.Text.{is_same, IsReportOver, setting_line, table_lines};
+ghost use Rattle.config_report.specs.Text.{value_pair, value_pairs};
 ghost use Rattle.config_report.specs.Text.{directory_text, directories_text, named_line};
 ghost use Rattle.config_report.specs.Text.{file_line, files_text, kind_view, kinds_of};
 ghost use Rattle.config_report.specs.Text.{sample_limits_of, request_limits_of};
@@ -47,95 +46,93 @@ pub(crate) fn write_text(
 
 /// Appends the settings of all tables.
 fn write_tables(out: &mut String, config: &Config, default: &Config) -> Result<(), AllocError>
-    ensures { OnOk result ((lines : List ℕ)
-        × (string_bytes out.new ≡ string_bytes out.old ++ lines)
-        × TablesGive IsSettingLine config.now default.now sections lines) }
+    ensures { OnOk result (string_bytes out.new
+        ≡ string_bytes out.old ++ flat_map (table_lines default.now config.now) sections) }
 {
-    for section in &SECTIONS {
+    let sections = &SECTIONS;
+    for section in sections {
         write_table(out, *section, config, default)?;
     }
     Ok(())
 }
 
 /// Appends the settings of a table.
-#[tactic(auto, using(crate::proofs::Pairs::ends_past))]
+#[tactic(auto, using(crate::proofs::Pairs::walk_next, crate::proofs::Pairs::walk_past, crate::proofs::Pairs::walk_end), unfolding(crate::specs::Text::table_lines))]
 fn write_table(
     out: &mut String,
     section: Section,
     config: &Config,
     default: &Config,
 ) -> Result<(), AllocError>
-    ensures { OnOk result ((lines : List ℕ)
-        × (string_bytes out.new ≡ string_bytes out.old ++ lines)
-        × SettingsGive (IsSettingLine section) (settings_in section config.now)
-        (settings_in section default.now) lines) }
+    ensures { OnOk result (string_bytes out.new
+        ≡ string_bytes out.old ++ table_lines default.now config.now section) }
 {
     let rows = rows(section);
     for index in 0..rows.len() {
-        let Some(value) = value_at(config, section, index) else {
+        let Some(pair) = pair_at(config, default, section, rows, index) else {
             return Ok(());
         };
-        let Some(usual) = value_at(default, section, index) else {
-            return Ok(());
-        };
-        write_setting(out, section, &rows[index], value, usual)?;
+        write!(out, "{}", Line(section, pair))?;
     }
     Ok(())
 }
 
-/// Appends a setting, beside its default where it differs from that.
-fn write_setting(
-    out: &mut String,
+/// A setting in two configurations.
+#[derive(Clone, Copy)]
+pub struct ValuePair<'a> {
+    /// Its key.
+    pub key: &'static str,
+    /// Its value.
+    pub value: SettingValue<'a>,
+    /// Its value in the other configuration.
+    pub other: SettingValue<'a>,
+}
+
+/// The setting of this number among those of a table, which has these rows, in two configurations.
+#[tactic(auto, using(crate::proofs::Pairs::no_value, crate::proofs::Pairs::no_other))]
+pub fn pair_at<'a>(
+    one: &'a Config,
+    other: &'a Config,
     section: Section,
-    row: &Row,
-    value: SettingValue<'_>,
-    usual: SettingValue<'_>,
-) -> Result<(), AllocError>
-    ensures { OnOk result (Adds (IsSettingLine section) row.now.key.now
-        (value_view value.entry) (value_view usual.entry)
-        (string_bytes out.old) (string_bytes out.new)) }
+    rows: &'static [Row],
+    index: usize,
+) -> Option<ValuePair<'a>>
+    requires rows { map row_view rows.now ≡ rows_in section one.now }
+    requires inside { index < length rows.now }
+    ensures { option_map value_pair result
+        ≡ slice_get (value_pairs one.now other.now section) index }
 {
-    if is_same(value, usual) {
-        write_usual(out, section, row.key, value)
-    } else {
-        write_marked(out, section, row.key, value, usual)
+    let value = value_at(one, section, index)?;
+    let other = value_at(other, section, index)?;
+    let key = rows[index].key;
+    Some(ValuePair { key, value, other })
+}
+
+/// The line of a setting, beside its default where it differs from that.
+#[derive(Clone, Copy)]
+struct Line<'a>(Section, ValuePair<'a>);
+
+impl fmt::Display for Line<'_> {
+    ghost output = { λ line. Some (setting_line line.0 (value_pair line.1)) };
+
+    #[tactic(auto, unfolding(crate::specs::Text::setting_line))]
+    fn fmt<W: fmt::Write>(&self, f: &mut fmt::Formatter<W>) -> fmt::Result {
+        let Line(section, pair) = *self;
+        let ValuePair { key, value, other } = pair;
+        let prefix = section.prefix();
+        if is_same(value, other) {
+            write!(f, "  {prefix}{key} = {value}\n")
+        } else {
+            write!(f, "! {prefix}{key} = {value}, by default {other}\n")
+        }
     }
 }
 
-/// Appends a setting that has its default.
-fn write_usual(
-    out: &mut String,
-    section: Section,
-    key: &str,
-    value: SettingValue<'_>,
-) -> Result<(), AllocError>
-    ensures { OnOk result (string_bytes out.new
-        ≡ string_bytes out.old ++ usual_line section key.now (value_view value.entry)) }
-{
-    write!(out, "  {}{key} = {value}\n", section.prefix())
-}
-
-/// Appends a setting that has another value than its default.
-fn write_marked(
-    out: &mut String,
-    section: Section,
-    key: &str,
-    value: SettingValue<'_>,
-    usual: SettingValue<'_>,
-) -> Result<(), AllocError>
-    ensures { OnOk result (string_bytes out.new ≡ string_bytes out.old
-        ++ marked_line section key.now (value_view value.entry) (value_view usual.entry)) }
-{
-    write!(
-        out,
-        "! {}{key} = {value}, by default {usual}\n",
-        section.prefix()
-    )
-}
-
 /// Whether two settings have one value.
+#[tactic(auto, using(crate::proofs::Same::same_is))]
 pub fn is_same(value: SettingValue<'_>, usual: SettingValue<'_>) -> bool
-    ensures { IsTrue result ↔ (value_view value.entry ≡ value_view usual.entry) }
+    ensures test { result ≡ is_same (value_view value.entry) (value_view usual.entry) }
+    ensures equal { IsTrue result ↔ (value_view value.entry ≡ value_view usual.entry) }
 {
     match value {
         SettingValue::Duration(time) => is_time(usual, time),

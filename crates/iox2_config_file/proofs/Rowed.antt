@@ -129,6 +129,12 @@ split_at : (ss : List Section) (i : ℕ) (d : Section) → i < length ss
     → drop i ss ≡ get_or ss i d ∷ drop (i + 1) ss
 split_at ss i d lt = grind (arith, add-one, drop-cons)
 
+-- what is found in one table more
+pub table_more : {A : Type 0} (found : Section → List A) (ss : List Section) (i : ℕ) (d : Section)
+    (old new whole : List A) → i < length ss → new ≡ old ++ found (get_or ss i d)
+    → old ++ flat_map found (drop i ss) ≡ whole → new ++ flat_map found (drop (i + 1) ss) ≡ whole
+table_more found ss i d old new whole lt added before = grind (arith, append_assoc, split_at)
+
 -- the first setting of this table that does not fit is the first of all
 pub misfit_first : (config : Config) (ss : List Section) (i : ℕ) (d : Section) (key : List ℕ)
     → i < length ss → Some key ≡ slice_get (section_misfits (get_or ss i d) config) 0

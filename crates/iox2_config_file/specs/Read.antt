@@ -10,7 +10,7 @@ use Rattle.iox2_config_file.specs.declared.section.Section.TheVariants as sectio
 use Rattle.iox2_config_file.specs.declared.fault.Fault.{Fault}
 use Rattle.iox2_config_file.specs.declared.fault.SettingFault.{SettingFault}
 use Rattle.iox2_config_file.specs.Values.{value_or, fault_in}
-use Rattle.iox2_config_file.specs.Settings.{Setting, settings_in, tables_in, prefix_of}
+use Rattle.iox2_config_file.specs.Settings.{Setting, settings_in, table_path, tables_in, prefix_of}
 use Rattle.toml.specs.Data.{Members, no_members, get_member, as_table}
 use Rattle.iox2_texts.specs.declared.bounded.SemanticStringError.{SemanticStringError}
 use Rattle.iox2_texts.specs.declared.bounded.SemanticStringError.TheVariants.{InvalidContent, ExceedsMaximumLength}
@@ -37,22 +37,14 @@ read_setting ms s = record s { value = value_or s.kind s.value (get_member s.key
 abbrev pub members_at : List ℕ → Members → Members
 members_at key ms = unwrap_or (option_and_then as_table (get_member key ms)) no_members
 
+-- the members of the table at a path
+abbrev pub members_below : List (List ℕ) → Members → Members
+members_below [] file = file
+members_below (key ∷ keys) file = members_below keys (members_at key file)
+
 -- the members of each table of a file, none where it is absent
 abbrev pub section_members : Section → Members → Members
-section_members section.Root file = file
-section_members section.Global file = members_at (codes "global") file
-section_members section.Service file =
-    members_at (codes "service") (members_at (codes "global") file)
-section_members section.Node file =
-    members_at (codes "node") (members_at (codes "global") file)
-section_members section.Defaults file = members_at (codes "defaults") file
-section_members section.PublishSubscribe file =
-    members_at (codes "publish-subscribe") (members_at (codes "defaults") file)
-section_members section.Event file = members_at (codes "event") (members_at (codes "defaults") file)
-section_members section.RequestResponse file =
-    members_at (codes "request-response") (members_at (codes "defaults") file)
-section_members section.Blackboard file =
-    members_at (codes "blackboard") (members_at (codes "defaults") file)
+section_members s = members_below (table_path s)
 
 -- the settings of a table, each with the value at its key, if there is one
 abbrev pub read_section : Section → Members → List Setting → List Setting

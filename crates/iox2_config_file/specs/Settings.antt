@@ -1,6 +1,6 @@
 -- The tables of the file, and the settings in each: the key of each, what it may be, and where it
 -- lies in the configuration.
-use Rattle.std.specs.Prelude.{ℕ, Bool, List, [], Option, Some, None, codes, option_map, slice_get, ◌∷◌, ◌++◌}
+use Rattle.std.specs.Prelude.{ℕ, Bool, List, [], Option, Some, None, codes, flat_map, option_map, slice_get, ◌∷◌, ◌++◌}
 use Rattle.std.specs.List.{list_all}
 use Rattle.iox2_config_file.specs.declared.section.Row.{Row}
 use Rattle.iox2_config_file.specs.declared.section.Section.{Section}
@@ -22,28 +22,33 @@ use Rattle.iox2_config_file.specs.declared.fault.Kind.{Kind}
 use Rattle.iox2_config_file.specs.declared.fault.Kind.TheVariants as kind
 use Rattle.iox2_config_file.specs.Values.{SettingValue, number, flag, text, backpressure, allocation, duration, option_value}
 
--- the name of a table, as a header spells it: nothing for the whole file
-abbrev pub table_name : Section → List ℕ
-table_name section.Root = []
-table_name section.Global = codes "global"
-table_name section.Service = codes "global.service"
-table_name section.Node = codes "global.node"
-table_name section.Defaults = codes "defaults"
-table_name section.PublishSubscribe = codes "defaults.publish-subscribe"
-table_name section.Event = codes "defaults.event"
-table_name section.RequestResponse = codes "defaults.request-response"
-table_name section.Blackboard = codes "defaults.blackboard"
+-- the keys that lead to a table
+abbrev pub table_path : Section → List (List ℕ)
+table_path section.Root = []
+table_path section.Global = codes "global" ∷ []
+table_path section.Service = codes "global" ∷ codes "service" ∷ []
+table_path section.Node = codes "global" ∷ codes "node" ∷ []
+table_path section.Defaults = codes "defaults" ∷ []
+table_path section.PublishSubscribe = codes "defaults" ∷ codes "publish-subscribe" ∷ []
+table_path section.Event = codes "defaults" ∷ codes "event" ∷ []
+table_path section.RequestResponse = codes "defaults" ∷ codes "request-response" ∷ []
+table_path section.Blackboard = codes "defaults" ∷ codes "blackboard" ∷ []
 
 -- what stands before the keys of a table in their paths
 abbrev pub prefix_of : Section → List ℕ
-prefix_of section.Root = []
-prefix_of s = table_name s ++ codes "."
+prefix_of s = flat_map (λ key. key ++ codes ".") (table_path s)
+
+-- some keys with dots between them
+abbrev pub dotted : List (List ℕ) → List ℕ
+dotted [] = []
+dotted (key ∷ []) = key
+dotted (key ∷ keys) = key ++ (codes "." ++ dotted keys)
 
 -- the name of a table that has settings, as its header spells it
 abbrev pub header_name : Section → Option (List ℕ)
 header_name section.Root = None
 header_name section.Defaults = None
-header_name s = Some (table_name s)
+header_name s = Some (dotted (table_path s))
 
 -- the text may stand in a comment: it has no end of a line
 abbrev pub is_line : List ℕ → Bool

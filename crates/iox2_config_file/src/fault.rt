@@ -1,16 +1,16 @@
 //! What the value of a key may be, and which values of a file are not allowed.
-ghost use Rattle.std.specs.Prelude.{◌≡◌, Some, ◌++◌, map, option_map, OnOk, IfOk};
+ghost use Rattle.std.specs.Prelude.{◌≡◌, Some, ◌++◌, map, option_map, OnOk};
 ghost use Rattle.iox2_config_file.specs.Read.{kind_text, no_file_name_text, no_path_text};
 ghost use Rattle.iox2_config_file.specs.Read.{reason_text, type_text, located_text, fault_view};
-ghost use Rattle.iox2_config_file.specs.Read.{row_fault, row_view, section_faults, faults_in};
-ghost use Rattle.toml.specs.Data.{no_members};
+ghost use Rattle.iox2_config_file.specs.Read.{row_fault, row_view, section_faults, section_members};
+ghost use Rattle.toml.specs.Data.{Members};
 ghost use Rattle.toml.specs.View.{table_view};
 ghost use Rattle.iox2_config.specs.declared.config.Config.{Config};
 
-use crate::section::{Row, SECTIONS, Section, get, rows, section_table};
+use crate::section::{Row, Section, get, rows};
 use crate::value::fault;
 use iox2_texts::bounded::SemanticStringError;
-use std::alloc::{AllocError, Global};
+use std::alloc::AllocError;
 use std::error::Error;
 use std::fmt;
 use toml::Table;
@@ -207,17 +207,15 @@ fn fault_of(section: Section, table: &Table, row: &Row) -> Option<SettingFault>
 
 /// Adds the faults of the values in a table of the file.
 #[tactic(auto, unfolding(crate::specs::Read::section_faults))]
-fn add_faults(
+pub(crate) fn add_faults(
     faults: &mut Vec<SettingFault>,
     section: Section,
-    file: &Table,
-    empty: &Table,
+    table: &Table,
 ) -> Result<(), AllocError>
-    requires { table_view empty.now ≡ no_members }
-    ensures { OnOk result ((c : Config) → map fault_view faults.new.items
-        ≡ map fault_view faults.old.items ++ section_faults c (table_view file.now) section) }
+    ensures { OnOk result ((c : Config) (file : Members)
+        → table_view table.now ≡ section_members section file → map fault_view faults.new.items
+        ≡ map fault_view faults.old.items ++ section_faults c file section) }
 {
-    let table = section_table(file, section, empty);
     let rows = rows(section);
     for row in rows {
         if let Some(fault) = fault_of(section, table, row) {
@@ -225,23 +223,4 @@ fn add_faults(
         }
     }
     Ok(())
-}
-
-/// The faults of all values of a file, in the order of the tables and of the keys in each.
-#[tactic(auto, unfolding(crate::specs::Read::faults_in))]
-pub(crate) fn file_faults(
-    alloc: Global,
-    file: &Table,
-    empty: &Table,
-) -> Result<Vec<SettingFault>, AllocError>
-    requires { table_view empty.now ≡ no_members }
-    ensures { IfOk result (λ faults. (c : Config)
-        → map fault_view faults.items ≡ faults_in c (table_view file.now)) }
-{
-    let mut faults = Vec::new(alloc);
-    let sections = &SECTIONS;
-    for section in sections {
-        add_faults(&mut faults, *section, file, empty)?;
-    }
-    Ok(faults)
 }

@@ -105,13 +105,13 @@ fn is_wanted(wanted: Wanted<'_>, section: Section, key: &str) -> bool
 }
 
 /// The first key of a table that is wanted.
-fn find_among(wanted: Wanted<'_>, section: Section, rows: &[Row]) -> Option<&'static str>
-    ensures { option_map (λ key. (section, key.now)) result
+fn find_among(wanted: Wanted<'_>, section: Section, rows: &[Row]) -> Option<(Section, &'static str)>
+    ensures { option_map (λ p. (p.0, p.1.now)) result
         ≡ find (is_wanted (wanted_view wanted.entry)) (keys_of section (map row_view rows.now)) }
 {
     for row in rows {
         if is_wanted(wanted, section, row.key) {
-            return Some(row.key);
+            return Some((section, row.key));
         }
     }
     None
@@ -124,8 +124,8 @@ fn find_wanted(wanted: Wanted<'_>) -> Option<(Section, &'static str)>
         → option_map (λ p. (p.0, p.1.now)) result ≡ wanted_in c (wanted_view wanted.entry) }
 {
     for section in &SECTIONS {
-        if let Some(key) = find_among(wanted, *section, rows(*section)) {
-            return Some((*section, key));
+        if let Some(found) = find_among(wanted, *section, rows(*section)) {
+            return Some(found);
         }
     }
     None

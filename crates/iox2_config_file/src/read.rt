@@ -2,6 +2,7 @@
 ghost use Rattle.std.specs.Prelude.{◌≡◌, Some, IfOk, IfErr, map};
 ghost use Rattle.iox2_config.specs.declared.config.Config.{Config};
 ghost use Rattle.iox2_config_file.specs.Answers.{IsConfigOf, IsUnparsed, ReadsAll, ReportsFaults};
+ghost use Rattle.iox2_config_file.specs.Answers.{ReportsUnknown};
 ghost use Rattle.iox2_config_file.specs.Read.{read_setting, read_section, IsSettingsOf};
 ghost use Rattle.iox2_config_file.specs.Settings as table_of;
 ghost use Rattle.iox2_config_file.specs.declared.section.Section.TheVariants as section;
@@ -9,9 +10,9 @@ ghost use Rattle.toml.specs.Data.{Members, no_members};
 ghost use Rattle.toml.specs.View.{table_view};
 ghost use Rattle.toml.specs.Parse.{parse_document};
 
-use crate::fault::{SettingFault, file_faults};
-use crate::section::{Section, node_settings, section_table, service_settings};
-use crate::unknown::{UnknownKey, unknown_keys};
+use crate::fault::{SettingFault, add_faults};
+use crate::section::{SECTIONS, Section, node_settings, section_table, service_settings};
+use crate::unknown::{UnknownKey, add_unknown};
 use crate::value::read;
 use crate::{
     blackboard_settings, event_settings, publish_subscribe_settings, request_response_settings,
@@ -55,20 +56,38 @@ pub fn read_config(alloc: Global, text: &str) -> Result<FileContents, ConfigFile
 {
     let file = parse(alloc, text)?;
     let empty = Table::new(alloc);
-    match file_faults(alloc, &file, &empty) {
-        Ok(faults) => match unknown_keys(alloc, &file, &empty) {
-            Ok(unknown) => {
-                let config = config(&file, &empty, &Config::default());
-                Ok(FileContents {
-                    config: settings_of(faults.as_slice(), config),
-                    faults,
-                    unknown,
-                })
-            }
-            Err(e) => Err(ConfigFileError::NoMemory(e)),
-        },
-        Err(e) => Err(ConfigFileError::NoMemory(e)),
+    let Ok((faults, unknown)) = wrong_in(alloc, &file, &empty) else {
+        return Err(ConfigFileError::NoMemory(AllocError));
+    };
+    let config = config(&file, &empty, &Config::default());
+    Ok(FileContents {
+        config: settings_of(faults.as_slice(), config),
+        faults,
+        unknown,
+    })
+}
+
+/// The values of a file that are not allowed, and its keys that no setting has, each in the order
+/// of the tables and of the keys in each.
+#[tactic(auto, unfolding(crate::specs::Read::faults_in, crate::specs::Unknown::unknown_in))]
+fn wrong_in(
+    alloc: Global,
+    file: &Table,
+    empty: &Table,
+) -> Result<(Vec<SettingFault>, Vec<UnknownKey>), AllocError>
+    requires { table_view empty.now ≡ no_members }
+    ensures faults { IfOk result (λ wrong. ReportsFaults (table_view file.now) wrong.0.items) }
+    ensures unknown { IfOk result (λ wrong. ReportsUnknown (table_view file.now) wrong.1.items) }
+{
+    let mut faults = Vec::new(alloc);
+    let mut unknown = Vec::new(alloc);
+    let sections = &SECTIONS;
+    for section in sections {
+        let table = section_table(file, *section, empty);
+        add_faults(&mut faults, *section, table)?;
+        add_unknown(alloc, &mut unknown, *section, table)?;
     }
+    Ok((faults, unknown))
 }
 
 /// The settings of a file, unless it has faults.

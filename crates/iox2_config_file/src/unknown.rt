@@ -1,14 +1,13 @@
 //! The keys of a file that no setting has.
 ghost use Rattle.std.specs.Prelude.{◌≡◌, ◌++◌, Some, map, option_map, OnOk, IfOk};
 ghost use Rattle.iox2_config.specs.declared.config.Config.{Config};
-ghost use Rattle.iox2_config_file.specs.Read.{row_view};
-ghost use Rattle.iox2_config_file.specs.Unknown.{is_known, unknown_view, unknown_at, unknown_among};
-ghost use Rattle.iox2_config_file.specs.Unknown.{section_unknown, unknown_in};
-ghost use Rattle.toml.specs.Data.{no_members};
+ghost use Rattle.iox2_config_file.specs.Read.{row_view, section_members};
+ghost use Rattle.iox2_config_file.specs.Unknown.{is_known, section_unknown, unknown_at, unknown_view};
+ghost use Rattle.toml.specs.Data.{Members};
 ghost use Rattle.toml.specs.View.{table_view};
 
 use crate::proposal::{Proposal, propose};
-use crate::section::{Row, SECTIONS, Section, rows, section_table};
+use crate::section::{Row, Section, rows};
 use std::alloc::{AllocError, Global};
 use toml::Table;
 
@@ -51,16 +50,18 @@ fn unknown_of(alloc: Global, section: Section, key: &str) -> Result<Option<Unkno
     }))
 }
 
-/// Adds the unknown keys of a table.
-fn add_unknown(
+/// Adds the unknown keys of a table of the file.
+#[tactic(auto, unfolding(crate::specs::Unknown::section_unknown))]
+pub(crate) fn add_unknown(
     alloc: Global,
     unknown: &mut Vec<UnknownKey>,
     section: Section,
     table: &Table,
 ) -> Result<(), AllocError>
-    ensures { OnOk result ((c : Config) → map unknown_view unknown.new.items
-        ≡ map unknown_view unknown.old.items
-        ++ unknown_among c section (table_view table.now)) }
+    ensures { OnOk result ((c : Config) (file : Members)
+        → table_view table.now ≡ section_members section file
+        → map unknown_view unknown.new.items
+        ≡ map unknown_view unknown.old.items ++ section_unknown c file section) }
 {
     for (key, _) in table.iter() {
         if let Some(found) = unknown_of(alloc, section, key.as_str())? {
@@ -68,39 +69,4 @@ fn add_unknown(
         }
     }
     Ok(())
-}
-
-/// Adds the unknown keys of a table of the file.
-#[tactic(auto, unfolding(crate::specs::Unknown::section_unknown))]
-fn add_section(
-    alloc: Global,
-    unknown: &mut Vec<UnknownKey>,
-    section: Section,
-    file: &Table,
-    empty: &Table,
-) -> Result<(), AllocError>
-    requires { table_view empty.now ≡ no_members }
-    ensures { OnOk result ((c : Config) → map unknown_view unknown.new.items
-        ≡ map unknown_view unknown.old.items ++ section_unknown c (table_view file.now) section) }
-{
-    add_unknown(alloc, unknown, section, section_table(file, section, empty))
-}
-
-/// The unknown keys of a file, in the order of its tables and of the keys in each.
-#[tactic(auto, unfolding(crate::specs::Unknown::unknown_in))]
-pub(crate) fn unknown_keys(
-    alloc: Global,
-    file: &Table,
-    empty: &Table,
-) -> Result<Vec<UnknownKey>, AllocError>
-    requires { table_view empty.now ≡ no_members }
-    ensures { IfOk result (λ unknown. (c : Config)
-        → map unknown_view unknown.items ≡ unknown_in c (table_view file.now)) }
-{
-    let mut unknown = Vec::new(alloc);
-    let sections = &SECTIONS;
-    for section in sections {
-        add_section(alloc, &mut unknown, *section, file, empty)?;
-    }
-    Ok(unknown)
 }

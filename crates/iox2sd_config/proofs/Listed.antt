@@ -23,10 +23,8 @@ has_faults default file (x ∷ xs) None is all h = grind arith
 -- as many faults are listed as there are
 pub as_many : (bytes : List ℕ) (faults : List SettingFault) (listed : List PlainFault)
     → ListsFaults bytes faults listed → length listed ≡ length faults
-as_many bytes faults listed (plain, same, order) =
-    let all = length_permutation plain listed order.same in
-    let lengths = ap length same in
-    grind (arith, all, lengths, length-map)
+as_many bytes faults listed order =
+    let all = length_permutation _ listed order.same in grind (arith, all, length-map)
 
 -- where there is a first one, it stands before the others
 pub front_of : (listed : List PlainFault) (first : PlainFault)

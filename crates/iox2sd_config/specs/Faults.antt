@@ -94,35 +94,8 @@ cut_key path = zero_padded 80 (take 80 path)
 abbrev pub cut_reason : List ℕ → List ℕ
 cut_reason words = zero_padded 256 (take 256 words)
 
--- what a plain fault says
-pub record Known : Type 0 where
-  pub status : ℕ
-  pub table : ℕ
-  pub found : ℕ
-  pub wanted : ℕ
-  pub line : ℕ
-  pub column : ℕ
-  pub key : List ℕ
-  pub key_length : ℕ
-  pub reason : List ℕ
-  pub reason_length : ℕ
-
-abbrev pub known_of : PlainFault → Known
-known_of f = record {
-  status = f.status;
-  table = f.table;
-  found = f.found;
-  wanted = f.wanted;
-  line = f.line;
-  column = f.column;
-  key = f.key;
-  key_length = f.key_length;
-  reason = f.reason;
-  reason_length = f.reason_length;
-}
-
 -- a status in these words, and nothing of a key
-abbrev pub worded : Status → List ℕ → Known
+abbrev pub worded : Status → List ℕ → PlainFault
 worded s words = record {
   status = code s;
   table = 0;
@@ -137,7 +110,7 @@ worded s words = record {
 }
 
 -- a status in its own words, and nothing of a key
-abbrev pub no_position : Status → Known
+abbrev pub no_position : Status → PlainFault
 no_position s = worded s (status_text s)
 
 -- the line and the column of a position, 0 where there is none
@@ -156,7 +129,7 @@ key_of (Some key) = key
 
 -- what the report on a file says at a position, with its status, and with the table, the type and
 -- the kind of the value
-abbrev pub c_note : Status → ℕ → ℕ → ℕ → Note → Known
+abbrev pub c_note : Status → ℕ → ℕ → ℕ → Note → PlainFault
 c_note s table found wanted n = record {
   status = code s;
   table = table;
@@ -171,17 +144,17 @@ c_note s table found wanted n = record {
 }
 
 -- what the report says of a value that is not allowed, where its key has this position
-abbrev pub c_at : Option Position → Located → Known
+abbrev pub c_at : Option Position → Located → PlainFault
 c_at at (s, key, reason) =
     c_note (fault_status reason) (section_number s) (found_number reason) (wanted_number reason)
     (topic_note at (fault (s, key, reason)))
 
 -- the same in a file
-abbrev pub c_fault : List ℕ → Located → Known
+abbrev pub c_fault : List ℕ → Located → PlainFault
 c_fault bytes located = c_at (fault_position bytes located) located
 
 -- why bytes are no file of settings: what the report says, with its status
-abbrev pub c_unread : Unread → Known
+abbrev pub c_unread : Unread → PlainFault
 c_unread (NotUtf8 finding) = c_note status.NotUtf8 0 0 0 (finding_view finding)
 c_unread (TooDeep finding) = c_note status.TooDeep 0 0 0 (finding_view finding)
 c_unread (NotToml finding) = c_note status.NotToml 0 0 0 (finding_view finding)

@@ -13,7 +13,7 @@ use Rattle.iox2sd_common.specs.declared.answers.CountAnswer.{CountAnswer}
 use Rattle.iox2sd_common.specs.declared.status.Status.{Status}
 use Rattle.iox2sd_common.specs.declared.status.Status.TheVariants as status
 use Rattle.iox2sd_config.specs.Configs.{c_config}
-use Rattle.iox2sd_config.specs.Faults.{Known, known_of, no_position, worded, c_fault, c_unread, unread_status, sort_key_at}
+use Rattle.iox2sd_config.specs.Faults.{no_position, worded, c_fault, c_unread, unread_status, sort_key_at}
 use Rattle.iox2sd_config.specs.declared.config.PlainConfig.{PlainConfig}
 use Rattle.iox2sd_config.specs.declared.fault.PlainFault.{PlainFault}
 use Rattle.iox2sd_config.specs.declared.read.ConfigAnswer.{ConfigAnswer}
@@ -25,55 +25,44 @@ fault_sort_key f = sort_key_at f.line f.column
 -- these are some faults of a file as plain values, in the order of the file
 abbrev pub ListsFaults : List ℕ → List SettingFault → List PlainFault → Type 0
 ListsFaults bytes faults listed =
-    (plain : List PlainFault)
-    × (map known_of plain ≡ map (c_fault bytes) (map fault_view faults))
-    × IsInOrder fault_sort_key plain listed
-
--- what an answer says
-pub record KnownAnswer : Type 0 where
-  pub status : ℕ
-  pub unknown : ℕ
-  pub fault : Known
-
-abbrev pub known_answer : ConfigAnswer → KnownAnswer
-known_answer a = record { status = a.status; unknown = a.unknown; fault = known_of a.fault }
+    IsInOrder fault_sort_key (map (c_fault bytes) (map fault_view faults)) listed
 
 -- the settings were read, beside so many unknown keys; nothing is said of a fault
-abbrev pub read_answer : ℕ → KnownAnswer
+abbrev pub read_answer : ℕ → ConfigAnswer
 read_answer n = record { status = code status.Done; unknown = n; fault = worded status.Done [] }
 
 -- no settings were read
-abbrev pub refused_answer : Known → KnownAnswer
-refused_answer known = record { status = known.status; unknown = 0; fault = known }
+abbrev pub refused_answer : PlainFault → ConfigAnswer
+refused_answer fault = record { status = fault.status; unknown = 0; fault = fault }
 
 -- no settings were read for this cause, and the struct is as it was
-abbrev pub Keeps : Known → PlainConfig → KnownAnswer → PlainConfig → Type 0
-Keeps known old answer new = (answer ≡ refused_answer known) × (new ≡ old)
+abbrev pub Keeps : PlainFault → PlainConfig → ConfigAnswer → PlainConfig → Type 0
+Keeps fault old answer new = (answer ≡ refused_answer fault) × (new ≡ old)
 
 -- the first of some faults of a file, in its order, or that there was no memory to find it
-abbrev pub ReportsFirst : List ℕ → List SettingFault → Known → Type 0
-ReportsFirst bytes faults known =
-    ((first : PlainFault) × (more : List PlainFault) × ListsFaults bytes faults (first ∷ more)
-    × (known ≡ known_of first))
-    ⊎ (known ≡ no_position status.NoMemory)
+abbrev pub ReportsFirst : List ℕ → List SettingFault → PlainFault → Type 0
+ReportsFirst bytes faults first =
+    ((more : List PlainFault) × ListsFaults bytes faults (first ∷ more))
+    ⊎ (first ≡ no_position status.NoMemory)
 
 -- where a file has settings, they are those of this struct; else its first fault is returned
-abbrev pub Settles : List ℕ → FileContents → Option Config → PlainConfig → KnownAnswer
+abbrev pub Settles : List ℕ → FileContents → Option Config → PlainConfig → ConfigAnswer
     → PlainConfig → Type 0
 Settles bytes contents (Some config) old answer new =
     (new ≡ c_config config) × (answer ≡ read_answer (length contents.unknown.items))
 Settles bytes contents None old answer new =
-    (known : Known) × ReportsFirst bytes contents.faults.items known × Keeps known old answer new
+    (first : PlainFault) × ReportsFirst bytes contents.faults.items first
+    × Keeps first old answer new
 
 -- the settings of the file are those of this struct, or it is as it was
-abbrev pub ReadsInto : List ℕ → PlainConfig → KnownAnswer → PlainConfig → Type 0
+abbrev pub ReadsInto : List ℕ → PlainConfig → ConfigAnswer → PlainConfig → Type 0
 ReadsInto bytes old answer new =
     (IsText bytes × (contents : FileContents) × ReadsAll bytes contents
     × Settles bytes contents contents.config old answer new)
     ⊎ ((unread : Unread) × IsUnread bytes unread × Keeps (c_unread unread) old answer new)
 
 -- the same of the first struct, where there is one
-abbrev pub Answers : List ℕ → List PlainConfig → KnownAnswer → List PlainConfig → Type 0
+abbrev pub Answers : List ℕ → List PlainConfig → ConfigAnswer → List PlainConfig → Type 0
 Answers bytes [] answer new = (answer ≡ refused_answer (no_position status.Null)) × (new ≡ [])
 Answers bytes (old ∷ rest) answer after =
     (new : PlainConfig) × ReadsInto bytes old answer new × (after ≡ new ∷ rest)

@@ -42,35 +42,6 @@ IsFileName bytes = IsAllowed IsPlain 255 bytes
 abbrev pub bytes_of : PlainText → List ℕ
 bytes_of text = take text.length text.bytes
 
--- the paths are paths
-abbrev pub HasPaths : PlainTexts → Type 0
-HasPaths t =
-    IsPath (bytes_of t.root_path) × IsPath (bytes_of t.service_directory)
-    × IsPath (bytes_of t.node_directory)
-
--- the ends of the names of services' files are names of files
-abbrev pub HasServiceNames : PlainTexts → Type 0
-HasServiceNames t =
-    IsFileName (bytes_of t.data_segment_suffix)
-    × IsFileName (bytes_of t.static_config_storage_suffix)
-    × IsFileName (bytes_of t.dynamic_config_storage_suffix)
-    × IsFileName (bytes_of t.connection_suffix)
-    × IsFileName (bytes_of t.event_connection_suffix)
-    × IsFileName (bytes_of t.blackboard_mgmt_suffix)
-    × IsFileName (bytes_of t.blackboard_data_suffix)
-
--- the same of nodes' files
-abbrev pub HasNodeNames : PlainTexts → Type 0
-HasNodeNames t =
-    IsFileName (bytes_of t.monitor_suffix)
-    × IsFileName (bytes_of t.node_static_config_suffix)
-    × IsFileName (bytes_of t.service_tag_suffix) × IsFileName (bytes_of t.port_tag_suffix)
-    × IsFileName (bytes_of t.global_mgmt_suffix)
-
--- the same of all files, beside what their names begin with
-abbrev pub HasNames : PlainTexts → Type 0
-HasNames t = IsFileName (bytes_of t.prefix) × HasServiceNames t × HasNodeNames t
-
 -- a text, below the path of its key
 abbrev pub Keyed : Type 0
 Keyed = List ℕ × List ℕ
@@ -125,6 +96,27 @@ node_names_of t =
     ∷ (codes "global.node.service-tag-suffix", bytes_of t.service_tag_suffix)
     ∷ (codes "global.node.port-tag-suffix", bytes_of t.port_tag_suffix)
     ∷ (codes "global.node.global-mgmt-suffix", bytes_of t.global_mgmt_suffix) ∷ []
+
+-- all of the texts are such
+abbrev pub AreAll : (List ℕ → Type 0) → List Keyed → Type 0
+AreAll Is [] = ⊤
+AreAll Is (x ∷ xs) = Is x.1 × AreAll Is xs
+
+-- the paths are paths
+abbrev pub HasPaths : PlainTexts → Type 0
+HasPaths t = AreAll IsPath (paths_of t)
+
+-- the ends of the names of services' files are names of files
+abbrev pub HasServiceNames : PlainTexts → Type 0
+HasServiceNames t = AreAll IsFileName (service_names_of t)
+
+-- the same of nodes' files
+abbrev pub HasNodeNames : PlainTexts → Type 0
+HasNodeNames t = AreAll IsFileName (node_names_of t)
+
+-- the same of all files, beside what their names begin with
+abbrev pub HasNames : PlainTexts → Type 0
+HasNames t = IsFileName (bytes_of t.prefix) × HasServiceNames t × HasNodeNames t
 
 -- what is said of the first name that is refused: what names begin with is looked at first
 abbrev pub IsFirstBadName : PlainTexts → Status × List ℕ → Type 0

@@ -5,7 +5,7 @@ ghost use Rattle.iox2_config_file.specs.Read.{fault_view};
 ghost use Rattle.iox2sd_common.specs.Answers.{zero_padded};
 ghost use Rattle.iox2sd_config.specs.Faults.{section_number, type_number, kind_number};
 ghost use Rattle.iox2sd_config.specs.Faults.{fault_status, found_number, wanted_number, key_path};
-ghost use Rattle.iox2sd_config.specs.Faults.{key_of, known_of, no_position, worded, line_of};
+ghost use Rattle.iox2sd_config.specs.Faults.{key_of, no_position, worded, line_of};
 ghost use Rattle.iox2sd_config.specs.Faults.{column_of, c_note, c_at, c_unread, unread_status};
 ghost use Rattle.iox2sd_config.specs.Faults.{sort_key_at};
 
@@ -158,14 +158,14 @@ pub(crate) fn key_path(alloc: Global, section: Section, key: &str) -> Result<Str
 impl PlainFault {
     /// What a status says, and nothing of a key.
     pub(crate) fn of(status: Status) -> PlainFault
-        ensures { known_of result ≡ no_position status }
+        ensures { result ≡ no_position status }
     {
         PlainFault::with_reason(status, status.text())
     }
 
     /// A status in these words, and nothing of a key.
     pub(crate) fn with_reason(status: Status, reason: &str) -> PlainFault
-        ensures { known_of result ≡ worded status reason.now }
+        ensures { result ≡ worded status reason.now }
     {
         PlainFault {
             status: status.code(),
@@ -214,7 +214,7 @@ pub(crate) fn key_of(finding: &Finding) -> &str
 
 /// What is found in a file, with its status, and the table, the type and the kind of the value.
 fn reported(status: Status, table: u32, found: u32, wanted: u32, finding: &Finding) -> PlainFault
-    ensures { known_of result ≡ c_note status table found wanted (finding_view finding.now) }
+    ensures { result ≡ c_note status table found wanted (finding_view finding.now) }
 {
     let key = key_of(finding).as_bytes();
     let reason = finding.message.as_bytes();
@@ -238,7 +238,7 @@ pub(crate) fn plain_fault(
     fault: &SettingFault,
     position: Option<Position>,
 ) -> Result<PlainFault, AllocError>
-    ensures { IfOk result (λ plain. known_of plain ≡ c_at position (fault_view fault.now)) }
+    ensures { IfOk result (λ plain. plain ≡ c_at position (fault_view fault.now)) }
 {
     let finding = fault.finding(alloc, position)?;
     Ok(reported(
@@ -252,7 +252,7 @@ pub(crate) fn plain_fault(
 
 /// Why bytes are no file of settings.
 pub(crate) fn plain_unread(unread: &Unread) -> PlainFault
-    ensures { known_of result ≡ c_unread unread.now }
+    ensures { result ≡ c_unread unread.now }
 {
     match unread {
         Unread::NotUtf8(finding) => reported(Status::NotUtf8, 0, 0, 0, finding),

@@ -2,10 +2,10 @@
 ghost use Rattle.std.specs.Prelude.{◌≡◌, ◌<◌, IfOk, IsSome, Some, length, map, slice_get};
 ghost use Rattle.iox2_config_file.specs.Answers.{ReadsAll};
 ghost use Rattle.iox2_config_file.specs.Read.{fault_view};
-ghost use Rattle.iox2sd_config.specs.Faults.{known_of, c_fault};
+ghost use Rattle.iox2sd_config.specs.Faults.{c_fault};
 ghost use Rattle.iox2sd_config.specs.Files.{Answers, ListsFaults, PutsFaults, PutsListed};
 ghost use Rattle.iox2sd_config.specs.Files.{ReadsInto, ReportsFile, Settles, ReportsFirst};
-ghost use Rattle.iox2sd_config.specs.Files.{fault_sort_key, known_answer, read_answer, refused_answer};
+ghost use Rattle.iox2sd_config.specs.Files.{read_answer, refused_answer};
 ghost use Rattle.toml.specs.Parse.{parse_document};
 
 use crate::config::{PlainConfig, config_of};
@@ -31,7 +31,7 @@ pub struct ConfigAnswer {
 impl ConfigAnswer {
     /// The settings were read, beside so many unknown keys.
     fn read(unknown: usize) -> ConfigAnswer
-        ensures { known_answer result ≡ read_answer unknown }
+        ensures { result ≡ read_answer unknown }
     {
         let fault = PlainFault::with_reason(Status::Done, "");
         ConfigAnswer {
@@ -43,7 +43,7 @@ impl ConfigAnswer {
 
     /// No settings were read.
     fn refused(fault: PlainFault) -> ConfigAnswer
-        ensures { known_answer result ≡ refused_answer (known_of fault) }
+        ensures { result ≡ refused_answer fault }
     {
         ConfigAnswer {
             status: fault.status,
@@ -51,13 +51,6 @@ impl ConfigAnswer {
             fault,
         }
     }
-}
-
-/// Where a fault stands among others.
-fn sort_key(fault: &PlainFault) -> (usize, usize)
-    ensures { result ≡ fault_sort_key fault.now }
-{
-    sort_key_at(fault.line, fault.column)
 }
 
 /// Some faults of a text as plain values, each at its position.
@@ -68,7 +61,7 @@ fn plain_faults(
 ) -> Result<Vec<PlainFault>, AllocError>
     requires { IsSome (parse_document text.now) }
     ensures { IfOk result (λ plain.
-        map known_of plain.items ≡ map (c_fault text.now) (map fault_view faults.now)) }
+        plain.items ≡ map (c_fault text.now) (map fault_view faults.now)) }
 {
     let positions = key_positions(alloc, text, faults)?;
     let mut plain = Vec::new(alloc);
@@ -91,7 +84,7 @@ fn listed_faults(
     ensures { IfOk result (λ listed. ListsFaults text.now faults.now listed.items) }
 {
     let mut plain = plain_faults(alloc, text, faults)?;
-    plain.sort_by_key(|fault| sort_key(fault))?;
+    plain.sort_by_key(|fault| sort_key_at(fault.line, fault.column))?;
     Ok(plain)
 }
 
@@ -99,7 +92,7 @@ fn listed_faults(
 fn first_fault(alloc: Global, text: &str, faults: &[SettingFault]) -> PlainFault
     requires parsed { IsSome (parse_document text.now) }
     requires some { 0 < length faults.now }
-    ensures { ReportsFirst text.now faults.now (known_of result) }
+    ensures { ReportsFirst text.now faults.now result }
 {
     match listed_faults(alloc, text, faults) {
         Ok(listed) => first_of(listed.as_slice()),
@@ -124,7 +117,7 @@ fn read_contents(
     plain: &mut PlainConfig,
 ) -> ConfigAnswer
     requires { ReadsAll text.now contents.now }
-    ensures { Settles text.now contents.now contents.now.config plain.old (known_answer result)
+    ensures { Settles text.now contents.now contents.now.config plain.old result
         plain.new }
 {
     match &contents.config {
@@ -138,7 +131,7 @@ fn read_contents(
 
 /// Reads a file into a struct.
 fn read_into(alloc: Global, bytes: &[u8], plain: &mut PlainConfig) -> ConfigAnswer
-    ensures { ReadsInto bytes.now plain.old (known_answer result) plain.new }
+    ensures { ReadsInto bytes.now plain.old result plain.new }
 {
     match parse_file(alloc, bytes) {
         Ok((text, contents)) => read_contents(alloc, text, &contents, plain),
@@ -159,7 +152,7 @@ pub extern "C" fn iox2sd_config_read_at(
     text: &[u8],
     out: &mut [PlainConfig],
 ) -> ConfigAnswer
-    ensures { Answers text.now out.old (known_answer result) out.new }
+    ensures { Answers text.now out.old result out.new }
 {
     match out {
         [] => ConfigAnswer::refused(PlainFault::of(Status::Null)),

@@ -3,7 +3,7 @@ ghost use Rattle.std.specs.Prelude.{◌≡◌, IfOk, IsSome, map, option_map, st
 ghost use Rattle.config_report.specs.Notes.{finding_view};
 ghost use Rattle.iox2_config_file.specs.Unknown.{proposal_view, unknown_view};
 ghost use Rattle.iox2sd_config.specs.Unknown.{likeness_number, meant_number, meant_path};
-ghost use Rattle.iox2sd_config.specs.Unknown.{named_sort_key, named_view, paths_of, plain_of, c_key};
+ghost use Rattle.iox2sd_config.specs.Unknown.{named_view, paths_of, plain_of, c_key};
 ghost use Rattle.iox2sd_config.specs.Unknown.{c_key_at, c_unknown, unknown_answer, ListsKeys};
 ghost use Rattle.iox2sd_config.specs.Unknown.{ListsUnknown, PutsKeys, PutsUnknown};
 ghost use Rattle.toml.specs.Parse.{parse_document};
@@ -145,13 +145,6 @@ fn named_key(
     Ok(NamedKey { plain, path })
 }
 
-/// Where an unknown key stands among others.
-fn sort_key(key: &NamedKey) -> (usize, usize)
-    ensures { result ≡ named_sort_key key.now }
-{
-    sort_key_at(key.plain.line, key.plain.column)
-}
-
 /// Some unknown keys of a text, each at its position.
 fn named_keys(alloc: Global, text: &str, keys: &[UnknownKey]) -> Result<Vec<NamedKey>, AllocError>
     requires { IsSome (parse_document text.now) }
@@ -175,7 +168,7 @@ fn listed_keys(alloc: Global, text: &str, keys: &[UnknownKey]) -> Result<Vec<Nam
     ensures { IfOk result (λ listed. ListsKeys text.now keys.now listed.items) }
 {
     let mut named = named_keys(alloc, text, keys)?;
-    named.sort_by_key(|key| sort_key(key))?;
+    named.sort_by_key(|key| sort_key_at(key.plain.line, key.plain.column))?;
     Ok(named)
 }
 

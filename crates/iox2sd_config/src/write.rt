@@ -3,7 +3,8 @@ ghost use Rattle.std.specs.Prelude.{◌≡◌, IfOk, IfErr};
 ghost use Rattle.iox2sd_config.specs.Writing.{IsPath, IsFileName, bytes_of, HasPaths, HasNames};
 ghost use Rattle.iox2sd_config.specs.Writing.{HasServiceNames, HasNodeNames, service_of, node_of};
 ghost use Rattle.iox2sd_config.specs.Writing.{system_of, ReadsSystem, ReadsDefaults, ReadsConfig};
-ghost use Rattle.iox2sd_config.specs.Writing.{written_answer, unfit_answer, ReportsText};
+ghost use Rattle.iox2sd_config.specs.Writing.{written_answer, keyed_answer, unfit_answer};
+ghost use Rattle.iox2sd_config.specs.Writing.{ReportsText};
 ghost use Rattle.iox2sd_config.specs.Writing.{bad_status, bad_view, bad_path, bad_name, IsFirstBad};
 ghost use Rattle.iox2sd_config.specs.Writing.{paths_of, service_names_of, node_names_of};
 ghost use Rattle.iox2sd_config.specs.Writing.{IsFirstBadName};
@@ -54,16 +55,23 @@ impl WriteAnswer {
         }
     }
 
+    /// This status, of the value at a key.
+    fn keyed(status: Status, key: &str) -> WriteAnswer
+        ensures { result ≡ keyed_answer status key.now }
+    {
+        WriteAnswer {
+            key: cut(key.as_bytes()),
+            key_length: key.len(),
+            ..WriteAnswer::of(status, 0)
+        }
+    }
+
     /// What is not valid in the settings.
     fn refused(unfit: Unfit) -> WriteAnswer
         ensures { result ≡ unfit_answer unfit }
     {
         match unfit {
-            Unfit::Text(bad) => WriteAnswer {
-                key: cut(bad.key.as_bytes()),
-                key_length: bad.key.len(),
-                ..WriteAnswer::of(bad.status, 0)
-            },
+            Unfit::Text(bad) => WriteAnswer::keyed(bad.status, bad.key),
             Unfit::Field(field) => {
                 let answer = field.answer();
                 WriteAnswer {
@@ -364,11 +372,7 @@ fn write_text(alloc: alloc::Global, config: &Config, out: &mut [u8]) -> WriteAns
         }
         Err(ConfigWriteError::OutOfRange(misfit)) => {
             match key_path(alloc, misfit.section, misfit.key) {
-                Ok(path) => WriteAnswer {
-                    key: cut(path.as_bytes()),
-                    key_length: path.len(),
-                    ..WriteAnswer::of(Status::NoTomlInteger, 0)
-                },
+                Ok(path) => WriteAnswer::keyed(Status::NoTomlInteger, path.as_str()),
                 Err(_) => WriteAnswer::of(Status::NoMemory, 0),
             }
         }

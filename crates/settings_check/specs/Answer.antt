@@ -9,7 +9,7 @@ use Rattle.std.specs.declared.vec.IntoIter.{IntoIter}
 use Rattle.line_streams.specs.Filters.{status_number}
 use Rattle.config_report.specs.Findings.{HasDefaults, IsToml}
 use Rattle.config_report.specs.Text.{IsReportText}
-use Rattle.settings_check.specs.Found.{AreAllDifferences, Said, Seen, AreFound, ValidFile}
+use Rattle.settings_check.specs.Found.{differences, Said, Seen, AreFound, ValidFile}
 use Rattle.settings_check.specs.Lines.{lines_in, end_text, errors_in, warnings_in, unread_line, style_of}
 use Rattle.settings_check.specs.Schema.{IsSchema}
 use Rattle.settings_check.specs.Words.{Requests, texts_of}
@@ -79,15 +79,13 @@ pub record IsShown (strict : Bool) (seen : Seen) (answer : Answer) : Type 0 wher
   pub status : answer.status ≡ status_of strict seen
 
 -- what is said of the differences of two files without errors, or nothing where there are not two
-abbrev pub AreCompared : List ValidFile → List Said → Type 0
-AreCompared (a ∷ (b ∷ more)) said = AreAllDifferences (a, b) said
-AreCompared files said = said ≡ []
+abbrev pub compared : List ValidFile → List Said
+compared (a ∷ (b ∷ more)) = differences (a, b)
+compared files = []
 
--- what is said of the differences is added to what was found
-abbrev pub AddsCompared : Seen → Seen → Type 0
-AddsCompared old new =
-    (said : List Said) × AreCompared old.valid said
-    × (new.said ≡ old.said ++ said) × (new.unread ≡ old.unread) × (new.valid ≡ old.valid)
+-- the same beside what was found
+abbrev pub with_compared : Seen → Seen
+with_compared seen = record seen { said = seen.said ++ compared seen.valid }
 
 -- the texts of files are TOML
 abbrev pub AreToml : List ValidFile → Type 0
@@ -97,8 +95,7 @@ AreToml files = All (λ file. IsToml file.text) files
 abbrev pub AnswersTask : Task → Style → Bool → Seen → Answer → Type 0
 AnswersTask task.Show way strict seen answer = IsShown strict seen answer
 AnswersTask task.Compare way strict seen answer =
-    (compared : Seen) × AddsCompared seen compared
-    × IsChecked way strict (omitted_in task.Compare seen) compared answer
+    IsChecked way strict (omitted_in task.Compare seen) (with_compared seen) answer
 AnswersTask other way strict seen answer =
     IsChecked way strict (omitted_in other seen) seen answer
 

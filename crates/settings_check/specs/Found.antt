@@ -1,5 +1,5 @@
 -- Files, by their names, what is found in them, and which settings of two of them differ.
-use Rattle.std.specs.Prelude.{◌≡◌, ◌≢◌, ◌⊎◌, ℕ, List, codes, Result, Ok, Err, Vec, Bool, true, false, [], ◌∷◌, ◌++◌, map, if◌then◌else◌, Option, Some, None}
+use Rattle.std.specs.Prelude.{◌≡◌, ◌≢◌, ◌⊎◌, ℕ, List, codes, Result, Ok, Err, Vec, Bool, true, false, [], ◌∷◌, ◌++◌, flat_map, map, if◌then◌else◌, Option, Some, None}
 use Rattle.std.specs.declared.alloc.Global.{Global}
 use Rattle.std.specs.declared.io.ErrorKind.{ErrorKind}
 use Rattle.std.specs.declared.io.ErrorKind.TheVariants as kind
@@ -8,14 +8,14 @@ use Rattle.settings_check.specs.declared.found.FileError.{FileError}
 use Rattle.settings_check.specs.declared.found.FileError.TheVariants.{NotFound, PermissionDenied, IsADirectory, Other}
 use Rattle.iox2_config.specs.declared.config.Config.{Config}
 use Rattle.config_report.specs.Findings.{Checks, IsToml}
-use Rattle.config_report.specs.Notes.{Note, finding_view, table_path}
+use Rattle.config_report.specs.Notes.{Note, finding_view}
 use Rattle.config_report.specs.declared.finding.Finding.{Finding}
 use Rattle.config_report.specs.declared.finding.Findings.{Findings}
 use Rattle.config_report.specs.declared.finding.Severity.{Severity}
 use Rattle.config_report.specs.declared.finding.Severity.TheVariants.{Error, Warning}
-use Rattle.config_report.specs.Text.{TablesGive}
+use Rattle.config_report.specs.Text.{ValuePair, is_same, value_pairs}
 use Rattle.iox2_config_file.specs.Read.{sections}
-use Rattle.iox2_config_file.specs.Settings.{prefix_of, Setting}
+use Rattle.iox2_config_file.specs.Settings.{prefix_of, table_path}
 use Rattle.iox2_config_file.specs.Values.{SettingValue}
 use Rattle.iox2_config_file.specs.Write.{value_text, value_view}
 use Rattle.iox2_config_file.specs.declared.section.Section.{Section}
@@ -232,12 +232,17 @@ abbrev pub difference_in : ValidFile × ValidFile → Section → List ℕ → S
 difference_in (a, b) s key value other =
     difference s key (setting_in a s key value) (setting_in b s key other)
 
--- what is said of a setting beside that of the other file: something exactly where they differ
-abbrev pub IsDifference : ValidFile × ValidFile → Section → Setting → Setting → List Said → Type 0
-IsDifference files s x y said =
-    ((x.value ≡ y.value) × (said ≡ []))
-    ⊎ ((x.value ≢ y.value) × (said ≡ difference_in files s x.key x.value y.value ∷ []))
+-- what is said of a setting: something exactly where its values differ
+unfoldable pub setting_differences : ValidFile × ValidFile → Section → ValuePair → List Said
+setting_differences files s p =
+    if is_same p.value p.other then []
+    else difference_in files s p.key p.value p.other ∷ []
+
+-- what is said of the settings of a table
+unfoldable pub table_differences : ValidFile × ValidFile → Section → List Said
+table_differences (a, b) s =
+    flat_map (setting_differences (a, b) s) (value_pairs a.config b.config s)
 
 -- what is said of all settings, in the order of the tables: those that all processes share first
-abbrev pub AreAllDifferences : ValidFile × ValidFile → List Said → Type 0
-AreAllDifferences (a, b) said = TablesGive (IsDifference (a, b)) a.config b.config sections said
+abbrev pub differences : ValidFile × ValidFile → List Said
+differences files = flat_map (table_differences files) sections

@@ -5,7 +5,7 @@ ghost use Rattle.std.specs.Io.KnownBytes.{IsAtEnd};
 ghost use Rattle.line_streams.specs.Filters.{status_number};
 ghost use Rattle.line_streams.specs.Streams.{Fails, IsFlushed, ReadFails};
 ghost use Rattle.settings_check.specs.Answer.{status_of, IsChecked, IsTextOf, IsShown};
-ghost use Rattle.settings_check.specs.Answer.{AddsCompared, AreToml, AnswersFiles, omitted_in};
+ghost use Rattle.settings_check.specs.Answer.{AreToml, AnswersFiles, omitted_in, with_compared};
 ghost use Rattle.settings_check.specs.Answer.{IsDefaultAnswer, IsRefusedAnswer, IsSchemaAnswer, IsTextAnswer, Answers};
 ghost use Rattle.settings_check.specs.Answer.{reads_input, input_is_read, AnswersArguments, Reported};
 ghost use Rattle.settings_check.specs.Answer.{Ends, RefusesMemory};
@@ -163,7 +163,7 @@ fn shown(alloc: Global, strict: bool, found: &Found<'_>) -> Result<Answer, Alloc
 /// Adds in what two files differ, if there are two without errors.
 fn add_compared(alloc: Global, found: &mut Found<'_>) -> Result<(), AllocError>
     requires { AreToml (found_view found.old).valid }
-    ensures { OnOk result (AddsCompared (found_view found.old) (found_view found.new)) }
+    ensures { OnOk result (found_view found.new ≡ with_compared (found_view found.old)) }
 {
     match found.valid.as_slice() {
         [first, second, ..] => {

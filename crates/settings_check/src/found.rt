@@ -2,23 +2,24 @@
 ghost use Rattle.std.specs.Prelude.{◌≡◌, ℕ, List, Result, IfOk, ⊤, ◌++◌, OnOk, Ok, Err};
 ghost use Rattle.std.specs.Prelude.{map, Some};
 ghost use Rattle.config_report.specs.Findings.{IsToml};
-ghost use Rattle.config_report.specs.Text.{Adds, SettingsGive};
-ghost use Rattle.iox2_config_file.specs.Settings.{settings_in};
+ghost use Rattle.config_report.specs.Text.{value_pair};
 ghost use Rattle.iox2_config_file.specs.Write.{value_view};
 ghost use Rattle.settings_check.specs.Found.{given_bytes, cause_of, why_text, report_of};
 ghost use Rattle.settings_check.specs.Found.{reports_of};
-ghost use Rattle.settings_check.specs.Found.{found_view, AddsGiven, AddsFile, AreFound, Said};
+ghost use Rattle.settings_check.specs.Found.{found_view, AddsGiven, AddsFile, AreFound};
 ghost use Rattle.settings_check.specs.Found.{pair_view, valid_in, valid_view};
 ghost use Rattle.settings_check.specs.Found.{AreParsed, setting_in, setting_view};
-ghost use Rattle.settings_check.specs.Found.{difference, is_shared, difference_severity};
-ghost use Rattle.settings_check.specs.Found.{AreAllDifferences, IsDifference, sharing_text};
-ghost use Rattle.settings_check.specs.Found.{elsewhere_text, said_beside};
+ghost use Rattle.settings_check.specs.Found.{difference, difference_severity, differences};
+ghost use Rattle.settings_check.specs.Found.{is_shared, setting_differences, sharing_text};
+ghost use Rattle.settings_check.specs.Found.{elsewhere_text, said_beside, table_differences};
 ghost use Rattle.settings_check.specs.declared.found.FileError.{FileError};
 ghost use Rattle.settings_check.specs.Words.{texts_of};
 
-use config_report::{Finding, Position, Severity, check_file, is_same, written_at};
+use config_report::{
+    Finding, Position, Severity, ValuePair, check_file, is_same, pair_at, written_at,
+};
 use iox2_config::config::Config;
-use iox2_config_file::{Row, SECTIONS, Section, SettingValue, rows, value_at};
+use iox2_config_file::{SECTIONS, Section, SettingValue, rows};
 use line_streams::read_all;
 use std::alloc::{AllocError, Global};
 use std::fs::File;
@@ -363,32 +364,31 @@ pub(crate) struct Pair<'a, 'b> {
 }
 
 /// Adds a setting if it differs.
+#[tactic(auto, using(crate::proofs::Finding::reported), unfolding(crate::specs::Found::setting_differences))]
 fn add_setting<'a>(
     alloc: Global,
     reports: &mut Vec<Report<'a>>,
     files: Pair<'a, '_>,
     section: Section,
-    row: &Row,
-    value: SettingValue<'_>,
-    other: SettingValue<'_>,
+    pair: ValuePair<'_>,
 ) -> Result<(), AllocError>
     requires { AreParsed (pair_view files) }
-    ensures { OnOk result (Adds (IsDifference (pair_view files.entry) section) row.now.key.now
-        (value_view value.entry) (value_view other.entry)
-        (reports_of reports.old.items) (reports_of reports.new.items)) }
+    ensures { OnOk result (reports_of reports.new.items ≡ reports_of reports.old.items
+        ++ setting_differences (pair_view files.entry) section (value_pair pair.entry)) }
 {
+    let ValuePair { key, value, other } = pair;
     if is_same(value, other) {
         return Ok(());
     }
-    let first = setting_in(alloc, files.first, section, row.key, value)?;
-    let second = setting_in(alloc, files.second, section, row.key, other)?;
-    let report = difference(alloc, section, row.key, first, second)?;
+    let first = setting_in(alloc, files.first, section, key, value)?;
+    let second = setting_in(alloc, files.second, section, key, other)?;
+    let report = difference(alloc, section, key, first, second)?;
     reports.push(report)?;
     Ok(())
 }
 
 /// Adds the settings of a table that differ.
-#[tactic(auto, using(config_report::proofs::Pairs::ends_past))]
+#[tactic(auto, using(config_report::proofs::Pairs::walk_next, config_report::proofs::Pairs::walk_past, config_report::proofs::Pairs::walk_end), unfolding(crate::specs::Found::table_differences))]
 fn add_table<'a>(
     alloc: Global,
     reports: &mut Vec<Report<'a>>,
@@ -396,21 +396,17 @@ fn add_table<'a>(
     section: Section,
 ) -> Result<(), AllocError>
     requires { AreParsed (pair_view files) }
-    ensures { OnOk result ((said : List Said)
-        × (reports_of reports.new.items ≡ reports_of reports.old.items ++ said)
-        × SettingsGive (IsDifference (pair_view files.entry) section)
-        (settings_in section files.entry.first.now.config)
-        (settings_in section files.entry.second.now.config) said) }
+    ensures { OnOk result (reports_of reports.new.items
+        ≡ reports_of reports.old.items ++ table_differences (pair_view files.entry) section) }
 {
     let rows = rows(section);
+    let one = &files.first.config;
+    let other = &files.second.config;
     for index in 0..rows.len() {
-        let Some(value) = value_at(&files.first.config, section, index) else {
+        let Some(pair) = pair_at(one, other, section, rows, index) else {
             return Ok(());
         };
-        let Some(other) = value_at(&files.second.config, section, index) else {
-            return Ok(());
-        };
-        add_setting(alloc, reports, files, section, &rows[index], value, other)?;
+        add_setting(alloc, reports, files, section, pair)?;
     }
     Ok(())
 }
@@ -422,11 +418,11 @@ pub(crate) fn add_differences<'a>(
     files: Pair<'a, '_>,
 ) -> Result<(), AllocError>
     requires { AreParsed (pair_view files) }
-    ensures { OnOk result ((said : List Said)
-        × (reports_of reports.new.items ≡ reports_of reports.old.items ++ said)
-        × AreAllDifferences (pair_view files.entry) said) }
+    ensures { OnOk result (reports_of reports.new.items
+        ≡ reports_of reports.old.items ++ differences (pair_view files.entry)) }
 {
-    for section in &SECTIONS {
+    let sections = &SECTIONS;
+    for section in sections {
         add_table(alloc, reports, files, *section)?;
     }
     Ok(())

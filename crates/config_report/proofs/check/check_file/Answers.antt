@@ -1,10 +1,16 @@
-use Rattle.std.proofs.Common.{inl}
-use Rattle.std.proofs.lemmas.Result.{IfOk-weaker}
-use Rattle.config_report.specs.Findings.{Checks, FindsNoFile}
+use Rattle.std.proofs.Common.{◌++◌, ◌∙◌, [], ◌∷◌, ap, inl, refl}
+use Rattle.std.specs.Prelude.{map}
+use Rattle.config_report.specs.Notes.{finding_view}
 use Rattle.config_report.proofs.check.check_file.Goals as goal
 
-pub returns-in-Err : goal.returns-in-Err
-returns-in-Err c =
-    let bytes = c.args.bytes.now in
-    IfOk-weaker c.alone.result (FindsNoFile bytes) (Checks bytes) (λ found h. inl h)
-    (c.alone.ensures bytes c.in-Err.ensures.err)
+pub returns-in_ok-push-in-Err : goal.returns-in_ok-push-in-Err
+returns-in_ok-push-in-Err c =
+    let finding = c.in_ok-finding-in-Err.field-0 in
+    inl (record {
+      said = finding_view finding;
+      no_file = c.in_ok-finding-in-Err.ensures c.args.bytes.now c.in-Err.ensures.err;
+      config = refl;
+      list = ap (λ l. map finding_view l)
+          (c.in_ok-push-in-Err.ensures.items
+          ∙ ap (λ l. l ++ finding ∷ []) c.new-list.ensures.items);
+    })

@@ -1,11 +1,10 @@
-use Rattle.std.proofs.Common.{◌≡◌, ◌++◌, ℕ, List, string_bytes}
-use Rattle.iox2_config_file.specs.Settings.{settings_in}
-use Rattle.config_report.specs.Text.{IsSettingLine}
-use Rattle.config_report.proofs.Pairs.{Follows}
+use Rattle.std.proofs.Common.{◌≡◌, ◌++◌, drop, string_bytes}
+use Rattle.std.specs.Prelude.{flat_map}
+use Rattle.config_report.specs.Text.{setting_line, table_lines, value_pairs}
 use Rattle.config_report.proofs.text.write_table.Given as goal
 
 abbrev pub invariant-loop-index : goal.invariant-loop-index
 invariant-loop-index l =
-    (done : List ℕ) × (string_bytes l.out ≡ string_bytes l.initial.out ++ done)
-    × Follows (IsSettingLine l.section) (settings_in l.section l.config)
-    (settings_in l.section l.default) l.index done
+    string_bytes l.out
+    ++ flat_map (setting_line l.section) (drop l.index (value_pairs l.config l.default l.section))
+    ≡ string_bytes l.fn.out ++ table_lines l.default l.config l.section

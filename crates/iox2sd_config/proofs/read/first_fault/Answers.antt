@@ -1,4 +1,4 @@
-use Rattle.std.proofs.Common.{◌∙◌, ap, inl, refl, subst, arith}
+use Rattle.std.proofs.Common.{◌∙◌, ap, inl, subst, arith}
 use Rattle.std.specs.Prelude.{slice_get}
 use Rattle.iox2sd_config.proofs.Listed.{as_many, front_of}
 use Rattle.iox2sd_config.specs.Files.{ListsFaults}
@@ -14,9 +14,4 @@ returns-in-Ok c =
     let (more, is) =
     front_of c.in-Ok.listed.items c.first_of.result
     (c.first_of.ensures ∙ ap (λ l. slice_get l 0) c.as_slice.ensures.value) in
-    inl (
-      c.first_of.result,
-      more,
-      subst (ListsFaults c.args.text.now c.args.faults.now) is c.in-Ok.ensures,
-      refl,
-    )
+    inl (more, subst (ListsFaults c.args.text.now c.args.faults.now) is c.in-Ok.ensures)

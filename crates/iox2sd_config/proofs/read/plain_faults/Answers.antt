@@ -1,8 +1,9 @@
 use Rattle.std.proofs.Common.{None, arith, sym, ◌∙◌}
-use Rattle.config_report.proofs.Lines.{item_is, map_twice, one_positioned}
+use Rattle.std.proofs.lemmas.List.{map-id}
+use Rattle.config_report.proofs.Lines.{all_mapped, item_is, map_twice, one_positioned}
 use Rattle.config_report.specs.Notes.{fault_position, fault_topic, topic_position}
 use Rattle.iox2_config_file.specs.Read.{fault_view}
-use Rattle.iox2sd_config.specs.Faults.{known_of, c_at}
+use Rattle.iox2sd_config.specs.Faults.{c_at, c_fault}
 use Rattle.iox2sd_config.proofs.read.plain_faults.Goals as goal
 
 pub loop-fault-preserved : goal.loop-fault-preserved
@@ -10,7 +11,7 @@ loop-fault-preserved c =
     let text = c.args.text.now in
     let faults = c.args.faults.now in (
       omega (arith, c.loop-fault.invariant.0),
-      one_positioned fault_view (fault_position text) c_at known_of faults c.as_slice.result.now
+      one_positioned fault_view (fault_position text) c_at (λ p. p) faults c.as_slice.result.now
           c.loop-fault.fault-index c.loop-fault.i _ c.position_at-position.result None
           c.loop-fault.plain.items c.push.new.self.items c.in_ok-plain_fault.field-0 _
           c.loop-fault-test.true c.loop-fault.invariant.0
@@ -21,3 +22,9 @@ loop-fault-preserved c =
           c.position_at-position.ensures c.in_ok-plain_fault.ensures c.in_ok-push.ensures.items
           c.loop-fault.invariant.1,
     )
+
+pub returns : goal.returns
+returns c =
+    sym (map-id c.loop-fault.plain.items)
+    ∙ all_mapped fault_view (c_fault c.args.text.now) c.args.faults.now c.loop-fault.fault-index _ _
+    c.loop-fault-test.false c.loop-fault.invariant.1

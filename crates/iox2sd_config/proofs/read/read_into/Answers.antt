@@ -1,5 +1,5 @@
 use Rattle.std.proofs.Common.{◌∙◌, ap, inl, inr, refl, subst}
-use Rattle.iox2sd_config.specs.Files.{Settles, known_answer, refused_answer}
+use Rattle.iox2sd_config.specs.Files.{Settles, refused_answer}
 use Rattle.iox2sd_config.proofs.read.read_into.Goals as goal
 
 pub read_contents-requires : goal.read_contents-requires
@@ -7,7 +7,7 @@ read_contents-requires c = rw c.in-Ok.ensures.ok.0 c.in-Ok.ensures.ok.2
 
 pub returns-in-Ok : goal.returns-in-Ok
 returns-in-Ok c =
-    let answer = known_answer c.read_contents.result in
+    let answer = c.read_contents.result in
     let plain = c.read_contents.new.plain in
     inl (
       c.in-Ok.ensures.ok.1,

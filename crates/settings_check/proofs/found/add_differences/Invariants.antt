@@ -1,12 +1,11 @@
-use Rattle.std.proofs.Common.{◌≡◌, ◌++◌, List}
+use Rattle.std.proofs.Common.{◌≡◌, ◌++◌, drop}
+use Rattle.std.specs.Prelude.{flat_map}
 use Rattle.iox2_config_file.specs.Read.{sections}
-use Rattle.iox2_config_file.proofs.Rowed.{Follow}
-use Rattle.config_report.specs.Text.{TableGives}
-use Rattle.settings_check.specs.Found.{IsDifference, Said, pair_view, reports_of}
+use Rattle.settings_check.specs.Found.{pair_view, reports_of, table_differences}
 use Rattle.settings_check.proofs.found.add_differences.Given as goal
 
 abbrev pub invariant-loop-section : goal.invariant-loop-section
 invariant-loop-section l =
-    (done : List Said) × (reports_of l.reports.items ≡ reports_of l.initial.reports.items ++ done)
-    × Follow (TableGives (IsDifference (pair_view l.files)) l.files.first.now.config
-    l.files.second.now.config) sections l.section-index done
+    let said = flat_map (table_differences (pair_view l.files)) in
+    reports_of l.reports.items ++ said (drop l.section-index sections)
+    ≡ reports_of l.initial.reports.items ++ said sections

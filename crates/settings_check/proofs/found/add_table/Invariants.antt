@@ -1,13 +1,13 @@
-use Rattle.std.proofs.Common.{◌≡◌, ◌++◌, List}
-use Rattle.iox2_config_file.specs.Settings.{settings_in}
-use Rattle.settings_check.specs.Found.{Said, reports_of}
-use Rattle.settings_check.specs.Found.{IsDifference, pair_view}
-use Rattle.config_report.proofs.Pairs.{Follows}
+use Rattle.std.proofs.Common.{◌≡◌, ◌++◌, drop}
+use Rattle.std.specs.Prelude.{flat_map}
+use Rattle.config_report.specs.Text.{value_pairs}
+use Rattle.settings_check.specs.Found.{pair_view, reports_of, setting_differences, table_differences}
 use Rattle.settings_check.proofs.found.add_table.Given as goal
 
 abbrev pub invariant-loop-index : goal.invariant-loop-index
 invariant-loop-index l =
-    (done : List Said) × (reports_of l.reports.items ≡ reports_of l.initial.reports.items ++ done)
-    × Follows (IsDifference (pair_view l.files) l.section)
-    (settings_in l.section l.files.first.now.config)
-    (settings_in l.section l.files.second.now.config) l.index done
+    let files = pair_view l.files in
+    reports_of l.reports.items
+    ++ flat_map (setting_differences files l.section)
+    (drop l.index (value_pairs l.files.first.now.config l.files.second.now.config l.section))
+    ≡ reports_of l.initial.reports.items ++ table_differences files l.section
