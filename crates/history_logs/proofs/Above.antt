@@ -1,18 +1,9 @@
 -- The lines above one.
-use Rattle.std.proofs.Common.{◌≡◌, ◌≢◌, ℕ, ◌+◌, ◌<◌, ◌≤◌, List, [], ◌∷◌, ◌++◌, Option, Some, None, append_assoc, length, refl, sym, ◌∙◌, ap, subst, arith, inl, inr}
-use Rattle.std.specs.Prelude.{All, IsTrue, sum_by}
-use Rattle.std.proofs.lemmas.List.{length-append}
-use Rattle.std.proofs.lemmas.List.Elements.{All-head, All-tail}
-use Rattle.line_streams.specs.OneWay.{before_one}
-use Rattle.line_streams.specs.Spelling.{HasNo}
-use Rattle.log_lines.specs.Lines.{is_note, line_text}
-use Rattle.history_logs.specs.declared.logs.verdict.Expected.{Expected}
+use Rattle.history_logs.proofs.Words.{All, All-head, All-tail, Expected, GoesOn, HasNo, HasNoNext, IsAbove, IsOrderly, IsReadTo, IsTrue, List, Log, None, Option, Service, Some, Takes, [], ap, append_assoc, arith, before_one, calls_in, inl, inr, is_note, length, length-append, line_text, refl, subst, sum_by, sym, ℕ, ◌++◌, ◌+◌, ◌<◌, ◌∙◌, ◌∷◌, ◌≡◌, ◌≢◌, ◌≤◌}
 use Rattle.history_logs.specs.declared.logs.verdict.Expected.TheVariants as expected
-use Rattle.history_logs.specs.Good.{EndsSo, HasNoNext, IsAbove, IsOrderly, IsReadTo, Takes}
-use Rattle.history_logs.specs.Logs.{EndsThere, IsMissing, calls_in}
-use Rattle.history_logs.specs.Reading.{GoesOn, Log}
+use Rattle.history_logs.specs.Good.{EndsSo}
+use Rattle.history_logs.specs.Logs.{EndsThere, IsMissing}
 use Rattle.history_logs.specs.Reading.HasRead.{nothing, note, line}
-use Rattle.history_logs.specs.Seen.{Service}
 use Rattle.history_logs.proofs.Kept.{few_step, kept_new, kept_step}
 
 pub above_new : (bytes : List ℕ) (log : Log) → log.services ≡ []

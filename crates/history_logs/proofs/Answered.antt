@@ -1,38 +1,16 @@
 -- Where replies and commands stand in what was read.
-use Rattle.std.proofs.Common.{◌≡◌, ◌≢◌, ℕ, zero, suc, ◌+◌, ◌<◌, ◌≤◌, All, AllPairs, List, [], ◌∷◌, ◌++◌, Option, Some, None, get_or, length, slice_get, refl, sym, ◌∙◌, ap, subst, arith, inl, inr, append_assoc}
-use Rattle.std.specs.List.{slice_set}
-use Rattle.std.proofs.lemmas.Bool.{cases_eq}
-use Rattle.std.proofs.lemmas.List.Elements.{All-nil, All-push, All-set, All-weaker}
-use Rattle.std.proofs.lemmas.List.Quantifiers.{all_pairs_push}
-use Rattle.std.proofs.lemmas.Option.{same_Some}
-use Rattle.std.specs.Option.{option_map}
-use Rattle.histories.specs.declared.event.Event.{Event}
-use Rattle.histories.specs.declared.event.Event.TheVariants.{Begin, End, Crash}
-use Rattle.histories.specs.Histories.{IsOpen, StandsAt}
+use Rattle.history_logs.proofs.Words.{All, All-nil, All-push, All-set, All-weaker, AllPairs, Answers, Begin, Begins, Begun, CallerState, Crash, Crashes, End, Event, Expected, GoesOn, HasCommand, HasEventLines, HasNo, IsKept, IsLine, IsLineAt, IsOpen, IsOrderly, IsReadTo, IsSaidIn, Judged, Line, List, Log, None, Option, Part, Says, SeenReply, Service, ServiceLine, Some, StandsAt, [], all_pairs_push, ap, append-nil, append_assoc, arith, begin, call, called, calls_shown, cases_eq, command, crash, end, get_or, given, inl, inr, judged_answered, length, line_text, refl, reply, same_Some, service, shown, slice_get, slice_set, start_of, started, starting, starts, stopping, stops, subst, suc, sym, unseen, weak, with_alone, with_begin, with_crash, with_end, with_look, with_over, with_part, zero, ℕ, ◌++◌, ◌+◌, ◌<◌, ◌∙◌, ◌∷◌, ◌≡◌, ◌≢◌, ◌≤◌}
 use Rattle.histories.proofs.Events.{stands_cases, stands_within}
 use Rattle.iox2_dynamic.specs.Service as dynamic
-use Rattle.line_streams.specs.Spelling.{HasNo}
-use Rattle.log_lines.specs.Commands.{Begun}
-use Rattle.log_lines.specs.Commands.Begun.{command, weak}
-use Rattle.log_lines.specs.Lines.{IsLine, Line, line_text}
-use Rattle.log_lines.specs.Lines.Line.{service, call, reply, begin, end, crash, given}
-use Rattle.service_conformance.specs.declared.conformance.seen_reply.SeenReply.{SeenReply}
-use Rattle.service_conformance.specs.declared.conformance.possible.Part.{Part}
-use Rattle.service_conformance.specs.Judged.{Judged, judged_answered, shown}
-use Rattle.service_conformance.specs.Judged.Judged.{call as judged_call, starts, stops}
-use Rattle.service_descriptions.specs.declared.replay.lines.service_line.ServiceLine.{ServiceLine}
-use Rattle.history_logs.specs.declared.logs.verdict.Expected.{Expected}
-use Rattle.history_logs.specs.Good.{IsKept, IsOrderly, IsReadTo}
-use Rattle.history_logs.specs.EventLines.{Answers, HasCommand, HasEventLines, IsAnsweredIn, IsLineAt, IsSaidIn}
-use Rattle.history_logs.specs.Reading.{Crashes, GoesOn, HasRead, Log, Says}
+use Rattle.service_conformance.specs.Judged.Judged.{call as judged_call}
+use Rattle.history_logs.specs.EventLines.{IsAnsweredIn}
+use Rattle.history_logs.specs.Reading.{HasRead}
 use Rattle.history_logs.specs.Reading.HasRead.{nothing as none_read, note as note_read, line as line_read}
-use Rattle.history_logs.specs.declared.logs.callers.CallerState.{CallerState}
 use Rattle.history_logs.specs.declared.logs.callers.CallerState.TheVariants as caller
 use Rattle.history_logs.proofs.Commands.{note_or_reply_more, own_command}
 use Rattle.history_logs.proofs.AtIndex.{all_get, get_last, get_left, get_push, get_within}
-use Rattle.history_logs.proofs.Kept.{kept_new, kept_step}
+use Rattle.history_logs.proofs.Kept.{kept_new, kept_step, open_at}
 use Rattle.history_logs.proofs.Orderly.{both, open_new}
-use Rattle.history_logs.specs.Seen.{Begins, Service, called, calls_answered, calls_shown, changed, start_of, started, starting, stopping, unseen, with_alone, with_begin, with_crash, with_end, with_look, with_over, with_part}
 use Rattle.history_logs.proofs.Shortened.{get_changed, get_unchanged}
 
 -- the call that begins in this line has a command in the text, whatever follows
@@ -41,8 +19,7 @@ HasCommandIn text k = (rest : List ℕ) → HasCommand (text ++ rest) k
 
 -- more of the text is known
 command_on : (text more : List ℕ) (k : ℕ) → HasCommandIn text k → HasCommandIn (text ++ more) k
-command_on text more k has rest =
-    subst (λ (l : List ℕ). HasCommand l k) (sym (append_assoc text more rest)) (has (more ++ rest))
+command_on text more k has rest = rw (append_assoc text more rest) (has (more ++ rest))
 
 -- so it is above a line: the events stand in these lines, and replies where their calls end, and
 -- each call has its command, whatever follows
@@ -73,13 +50,10 @@ stands_shown : (calls : List Judged) (start : Option ℕ) (number : ℕ) (c : Ju
 stands_shown calls None number c r e =
     record { now = c; there = e; says = λ bytes k said. said }
 stands_shown calls (Some start) number c r e =
-    elim (cases_eq number start)
-    as (λ _. StandsShown (calls_shown calls (Some start) r) number c r) [
+    elim (cases_eq number start) [
       | inl same ↦ record {
         now = shown c r;
-        there = subst
-            (λ n. slice_get (changed (λ x. shown x r) calls n) number ≡ Some (shown c r)) same
-            (get_changed (λ x. shown x r) calls number ∙ ap (option_map (λ x. shown x r)) e);
+        there = rw (← same, get_changed (λ x. shown x r) calls number, e) refl;
         says = λ bytes k said. said_shown bytes c r k said;
       }
       | inr other ↦ record {
@@ -97,18 +71,6 @@ said_answered bytes (judged_call c) r k l words says is answer at =
 said_answered bytes (starts p ids) r k l words says is answer at = tt
 said_answered bytes (stops start seen) r k l words says is answer at =
     (words, ap Some says.text, (l, is, answer, at))
-
-push_rising : (ps : List ℕ) (count k : ℕ) → AllPairs (λ (one other : ℕ). one ≤ other) ps
-    → All (λ p. p ≤ count) ps → count ≤ k
-    → AllPairs (λ (one other : ℕ). one ≤ other) (ps ++ k ∷ [])
-push_rising ps count k rising upto h =
-    all_pairs_push (λ (one other : ℕ). one ≤ other) ps k rising
-    (λ i d lt. omega (arith, upto i d lt))
-
-push_upto : (ps : List ℕ) (count k : ℕ) → All (λ p. p ≤ count) ps → count ≤ k
-    → All (λ p. p ≤ k) (ps ++ k ∷ [])
-push_upto ps count k upto h =
-    All-push (λ p. p ≤ k) ps k (λ i d lt. omega (arith, upto i d lt)) (omega arith)
 
 pub located_new : (text : List ℕ) (count : ℕ) (line : ServiceLine)
     → HasEventLinesTo text count (unseen line)
@@ -131,8 +93,7 @@ module _ (text : List ℕ) (count : ℕ) (s : Service) (p : HasEventLinesTo text
     rising = p.rising;
     upto = λ i d lt. omega (arith, p.upto i d lt);
     answers = λ index number line at is rest.
-        subst (λ (l : List ℕ). IsAnsweredIn l s number line) (sym (append_assoc text more rest))
-        (p.answers index number line at is (more ++ rest));
+        rw (append_assoc text more rest) (p.answers index number line at is (more ++ rest));
     begun = λ i d lt. command_on text more (get_or s.begins i d) (p.begun i d lt);
   }
 
@@ -147,14 +108,13 @@ module _ (text : List ℕ) (count : ℕ) (s : Service) (p : HasEventLinesTo text
         → All (HasCommandIn text) t.begins → HasEventLinesTo text k t
     located_event t e events lines still last begun = record {
       long = ap length lines ∙ (both s.event_lines s.events k e p.long ∙ ap length (sym events));
-      rising = subst (AllPairs (λ (one other : ℕ). one ≤ other)) (sym lines)
-          (push_rising s.event_lines count k p.rising p.upto h);
-      upto = subst (All (λ p. p ≤ k)) (sym lines) (push_upto s.event_lines count k p.upto h);
-      answers = λ index number line at is rest.
-          let stands = subst (λ (l : List ℕ). slice_get l index ≡ Some line) lines is in
-          elim (stands_cases s.events e index (End number)
-          (subst (λ (l : List Event). StandsAt l index (End number)) events at))
-          as (λ _. IsAnsweredIn (text ++ rest) t number line) [
+      rising = rw lines (all_pairs_push (λ (one other : ℕ). one ≤ other) s.event_lines k p.rising
+          (λ i d lt. omega (arith, p.upto i d lt)));
+      upto = rw lines (All-push (λ p. p ≤ k) s.event_lines k
+          (λ i d lt. omega (arith, p.upto i d lt)) (omega arith));
+      answers = λ index number line ended is rest.
+          let stands = rw lines at is in
+          elim (stands_cases s.events e index (End number) (rw events at ended)) [
             | inl before ↦
                 let lt : index < length s.event_lines =
                 omega (arith, p.long, stands_within s.events index (End number) before) in
@@ -162,10 +122,10 @@ module _ (text : List ℕ) (count : ℕ) (s : Service) (p : HasEventLinesTo text
                 (p.answers index number line before
                 (sym (get_left s.event_lines (k ∷ []) index lt) ∙ stands) rest)
             | inr own ↦
-                let here : k ≡ line =
+                let here =
                 same_Some k line
                 (sym (get_last s.event_lines k index (own.0 ∙ sym p.long)) ∙ stands) in
-                subst (IsAnsweredIn (text ++ rest) t number) here (last number own.1 rest)
+                rw (← here) (last number own.1 rest)
           ];
       begun = begun;
     }
@@ -198,11 +158,7 @@ module _ (text : List ℕ) (count : ℕ) (s : Service) (p : HasEventLinesTo text
         → HasEventLinesTo text k (with_over s over k)
     located_over over part ids called =
         located_event (with_over s over k) (End over) refl refl (λ index number line at rest a. a)
-        (λ number e rest. (
-          starts part ids,
-          subst (λ n. slice_get s.calls n ≡ Some (starts part ids)) (same_end over number e) called,
-          tt,
-        )) p.begun
+        (λ number e rest. (starts part ids, rw (← same_end over number e) called, tt)) p.begun
 
     -- the caller of a call died
     pub located_crash : (dead : ℕ) → HasEventLinesTo text k (with_crash s dead k)
@@ -220,8 +176,7 @@ module _ (text : List ℕ) (count : ℕ) (s : Service) (p : HasEventLinesTo text
         let answered = λ (x : Judged). judged_answered x r in
         located_event (with_end s ended r k) (End ended) refl refl
         (λ index number line before rest a.
-        let other : number ≢ ended =
-        λ same. live.1 (index, inl (subst (λ n. StandsAt s.events index (End n)) same before)) in
+        let other : number ≢ ended = λ same. live.1 (index, inl (rw (← same) before)) in
         let sh = stands_shown s.calls (start_of s.calls ended) number a.0 r a.1 in (
           sh.now,
           get_unchanged answered shown_calls ended number other ∙ sh.there,
@@ -230,9 +185,7 @@ module _ (text : List ℕ) (count : ℕ) (s : Service) (p : HasEventLinesTo text
         (λ number e rest.
         let sh = stands_shown s.calls (start_of s.calls ended) ended c r called in (
           answered sh.now,
-          subst (λ n. slice_get (calls_answered s.calls ended r) n ≡ Some (answered sh.now))
-              (same_end ended number e)
-              (get_changed answered shown_calls ended ∙ ap (option_map answered) sh.there),
+          rw (← same_end ended number e, get_changed answered shown_calls ended, sh.there) refl,
           said_answered (text ++ rest) sh.now r k l words says is_line answer (there rest),
         )) p.begun
 
@@ -245,18 +198,15 @@ FollowsOn text count =
 follows_on : (text : List ℕ) (count : ℕ) (first : List ℕ) → HasNo 10 first → FollowsOn text count
     → FollowsOn (text ++ (first ++ 10 ∷ [])) (count + 1)
 follows_on text count first none cut rest line k at =
-    let same : count + suc (suc k) ≡ count + 1 + suc k = omega arith in
-    subst (λ n. IsLineAt ((text ++ (first ++ 10 ∷ [])) ++ rest) n line) same
-    (subst (λ (l : List ℕ). IsLineAt l (count + suc (suc k)) line)
-    (sym (append_assoc text (first ++ 10 ∷ []) rest))
+    let same : count + 1 + suc k ≡ count + suc (suc k) = omega arith in
+    rw (same, append_assoc text (first ++ 10 ∷ []) rest)
     (cut ((first ++ 10 ∷ []) ++ rest) line (suc k)
-    (first, rest, none, append_assoc first (10 ∷ []) rest, at)))
+    (first, rest, none, append_assoc first (10 ∷ []) rest, at))
 
 line_there : (text : List ℕ) (count : ℕ) (first : List ℕ) → HasNo 10 first → FollowsOn text count
     → (rest : List ℕ) → IsLineAt ((text ++ (first ++ 10 ∷ [])) ++ rest) (count + 1) first
 line_there text count first none cut rest =
-    subst (λ (l : List ℕ). IsLineAt l (count + 1) first)
-    (sym (append_assoc text (first ++ 10 ∷ []) rest))
+    rw (append_assoc text (first ++ 10 ∷ []) rest)
     (cut ((first ++ 10 ∷ []) ++ rest) first zero (rest, none, append_assoc first (10 ∷ []) rest))
 
 module _ (text : List ℕ) (count : ℕ) where
@@ -267,21 +217,14 @@ module _ (text : List ℕ) (count : ℕ) where
   Next = HasEventLinesTo text (count + 1)
 
   later : (s : Service) → Now s → Next s
-  later s p = record {
-    long = p.long;
-    rising = p.rising;
-    upto = λ i d lt. omega (arith, p.upto i d lt);
-    answers = p.answers;
-    begun = p.begun;
-  }
+  later s p = rw (← append-nil text) (located_on text count s p [] (count + 1) (omega arith))
 
   all_later : (ss : List Service) → All Now ss → All Next ss
   all_later ss all = All-weaker Now Next later ss all
 
   set_next : (ss new : List Service) (at : ℕ) (t : Service) → All Now ss → Next t
       → new ≡ slice_set ss at t → All Next new
-  set_next ss new at t all p is =
-      subst (All Next) (sym is) (All-set Next ss at t p (all_later ss all))
+  set_next ss new at t all p is = rw is (All-set Next ss at t p (all_later ss all))
 
   located_started : (s : Service) (start : dynamic.Service) → Next s → Next (started s start)
   located_started s start p = record {
@@ -294,8 +237,7 @@ module _ (text : List ℕ) (count : ℕ) where
 
   located_crashes : (ss new : List Service) (state : Option CallerState) → All Now ss
       → Crashes ss (count + 1) state new → All Next new
-  located_crashes ss new (Some caller.Idle) all d =
-      subst (All Next) (sym d) (all_later ss all)
+  located_crashes ss new (Some caller.Idle) all d = rw d (all_later ss all)
   located_crashes ss new (Some (caller.Calls at number)) all d =
       set_next ss new at (with_crash d.0 number (count + 1)) all
       (located_crash text count d.0 (all_get Now ss at d.0 all d.1) (count + 1) (omega arith)
@@ -318,23 +260,23 @@ module _ (text : List ℕ) (count : ℕ) where
   located_begun : (s t : Service) (b : Begun) (current : ℕ) → Now s
       → HasCommandIn text (count + 1) → Begins s b (count + 1) t current → Next t
   located_begun s t (command c) current p has begins =
-      subst Next (sym begins.0)
+      rw begins.0
       (located_begin text count s p (count + 1) (omega arith) (called s c) has)
   located_begun s t (weak r) current p has (inl looks) =
-      subst Next (sym looks.2) (located_look s looks.0 p has)
+      rw looks.2 (located_look s looks.0 p has)
   located_begun s t (weak r) current p has (inr lists) =
-      subst Next (sym lists.1) (located_begin text count s p (count + 1) (omega arith) _ has)
+      rw lists.1 (located_begin text count s p (count + 1) (omega arith) _ has)
 
   located_step : (old new : Log) (l : Line) → IsKept old → All Now old.services
       → GoesOn old (count + 1) l new → IsLine l
       → ((rest : List ℕ) → IsLineAt (text ++ rest) (count + 1) (line_text l))
       → (old.waits ≢ None → HasCommandIn text count) → All Next new.services
   located_step old new (service line) kept all g is there waits =
-      subst (λ (x : Log). All Next x.services) (sym g.2)
+      rw g.2
       (All-push Next old.services (unseen line) (all_later old.services all)
       (located_new text (count + 1) line))
   located_step old new (call number c) kept all g is there waits =
-      subst (λ (x : Log). All Next x.services) (sym g.4) (all_later old.services all)
+      rw g.4 (all_later old.services all)
   located_step old new (reply words) kept all g is there waits =
       let s = g.2 in
       let k = count + 1 in
@@ -361,10 +303,7 @@ module _ (text : List ℕ) (count : ℕ) where
       let s = g.2 in
       let k = count + 1 in
       let orderly = all_get IsOrderly old.services g.0 s kept.orderly g.6 in
-      let o = kept.opened name g.0 g.1 g.5 in
-      let same : o.0 ≡ s = same_Some o.0 s (sym o.1 ∙ g.6) in
-      let live : IsOpen s.events g.1 =
-      subst (λ (x : Service). IsOpen x.events g.1) same o.2 in
+      let live = open_at old.services g.0 g.1 s g.6 (kept.opened name g.0 g.1 g.5) in
       let within : g.1 < length s.calls =
       omega (arith, orderly.numbered g.1 live.0) in
       let c = get_within s.calls g.1 within in
@@ -374,14 +313,14 @@ module _ (text : List ℕ) (count : ℕ) where
   located_step old new (crash name) kept all g is there waits =
       located_crashes old.services new.services (old.callers name) all g.1
   located_step old new (given number what) kept all g is there waits =
-      elim g.5 as (λ _. All Next new.services) [
+      elim g.5 [
         | inl first ↦
             set_next old.services new.services g.0 (started g.1 g.2) all
             (located_started g.1 g.2 (later g.1 (all_get Now old.services g.0 g.1 all g.4.there)))
             (ap (λ (x : Log). x.services) first.1)
         | inr anew ↦
             let t = started (unseen g.1.line) g.2 in
-            subst (λ (x : Log). All Next x.services) (sym anew.1)
+            rw anew.1
             (All-push Next old.services t (all_later old.services all)
             (located_started (unseen g.1.line) g.2 (located_new text (count + 1) g.1.line)))
       ]
@@ -400,7 +339,7 @@ module _ (text : List ℕ) (count : ℕ) where
   waits_step old new (end name words) g is there some = absurd (some g.10)
   waits_step old new (crash name) g is there some = absurd (some g.3)
   waits_step old new (given number what) g is there some =
-      elim g.5 as (λ _. HasCommandIn text (count + 1)) [
+      elim g.5 [
         | inl first ↦ absurd (some (ap (λ (x : Log). x.waits) first.1 ∙ g.3))
         | inr anew ↦ absurd (some (ap (λ (x : Log). x.waits) anew.1 ∙ g.3))
       ]
@@ -416,9 +355,8 @@ read_on : (text : List ℕ) (count : ℕ) (log : Log) → HasRead text count log
 read_on text count log (none_read l services callers waits) = record {
   kept = kept_new log services callers waits;
   cut = λ rest line k at.
-      let same : suc k ≡ 0 + suc k = omega arith in
-      subst (λ n. IsLineAt rest n line) same at;
-  located = subst (All (HasEventLinesTo [] 0)) (sym services) (All-nil (HasEventLinesTo [] 0));
+      let same : 0 + suc k ≡ suc k = omega arith in rw same at;
+  located = rw services (All-nil (HasEventLinesTo [] 0));
   waits = λ some. absurd (some waits);
 }
 read_on text count log (note_read before n l read first none is) =
@@ -455,14 +393,11 @@ pub located_of : (bytes : List ℕ) (services : List Service) (bad : Option (ℕ
 located_of bytes services bad r =
     let g = r.good in
     let on = read_on g.text r.count r.log g.read in
-    subst (All (HasEventLines bytes)) r.same
+    rw (← r.same)
     (All-weaker (HasEventLinesTo g.text r.count) (HasEventLines bytes)
     (λ s p. record {
       rising = p.rising;
-      answers = λ index number k at is.
-          subst (λ (b : List ℕ). IsAnsweredIn b s number k) (sym g.spelled)
-          (p.answers index number k at is r.rest);
+      answers = λ index number k at is. rw g.spelled (p.answers index number k at is r.rest);
       begun = All-weaker (HasCommandIn g.text) (HasCommand bytes)
-          (λ k has. subst (λ (b : List ℕ). HasCommand b k) (sym g.spelled) (has r.rest)) s.begins
-          p.begun;
+          (λ k has. rw g.spelled (has r.rest)) s.begins p.begun;
     }) r.log.services on.located)

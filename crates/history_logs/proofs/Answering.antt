@@ -1,13 +1,9 @@
 -- Calls that are answered.
-use Rattle.std.proofs.Common.{◌≡◌, ℕ, zero, suc, List, [], ◌∷◌, Option, Some, None, ◌+◌, ◌<◌, ◌≤◌, ◌-◌, ◌++◌, drop, replicate, get_or, length, set, slice_get, refl, sym, ◌∙◌, ap, arith}
-use Rattle.std.proofs.lemmas.List.{get_or_past, length-replicate}
+use Rattle.history_logs.proofs.Words.{End, Event, Handle, Judged, List, None, Option, SeenReply, Service, Some, [], added_by, ap, arith, calls_answered, calls_shown, changed, drop, forgetting, forgotten, get_or, get_or_past, given_by, given_in, judged_answered, length, length-replicate, option_and_then, refl, replicate, role_added, shown, slice_get, slice_get_read, start_of, stopped, suc, sym, with_end, zero, ℕ, ◌++◌, ◌+◌, ◌-◌, ◌<◌, ◌∙◌, ◌∷◌, ◌≡◌, ◌≤◌}
+use Rattle.std.proofs.Common.{set}
 use Rattle.std.proofs.Math.Seq.{drop-append-add}
-use Rattle.histories.specs.declared.event.Event.{Event}
-use Rattle.histories.specs.declared.event.Event.TheVariants.{End}
-use Rattle.iox2_container.specs.Handle.{Handle}
-use Rattle.service_conformance.specs.declared.conformance.seen_reply.SeenReply.{SeenReply}
-use Rattle.service_conformance.specs.Judged.{Judged, judged_answered, role_added, shown, stopped}
-use Rattle.history_logs.specs.Seen.{Service, added_by, calls_answered, calls_shown, calls_shown_from, changed, forgetting, forgotten, given_by, given_in, start_of, with_end}
+use Rattle.history_logs.specs.Seen.{calls_shown_from}
+use Rattle.history_logs.proofs.Forgotten.{get_kept}
 use Rattle.history_logs.proofs.Orderly.{length_changed}
 
 pub changed_at : (f : Judged → Judged) (calls : List Judged) (number : ℕ) (c n : Judged)
@@ -20,9 +16,8 @@ changed_at f (x ∷ calls) (suc number) c n is new =
 -- the number with which a weak listing began is kept in the call
 pub start_at : (calls : List Judged) (number : ℕ) (c : Judged) → number < length calls
     → c ≡ get_or calls number c → start_of calls number ≡ stopped c
-start_at [] number c h is = absurd (omega arith)
-start_at (x ∷ calls) zero c h is = ap stopped (sym is)
-start_at (x ∷ calls) (suc number) c h is = start_at calls number c (omega arith) is
+start_at calls number c h is =
+    ap (option_and_then stopped) (slice_get_read calls (length calls) number c refl h is)
 
 -- beyond the calls nothing changes
 pub changed_past : (f : Judged → Judged) (calls : List Judged) (number : ℕ)
@@ -87,15 +82,9 @@ changed_over f (suc first) d calls (suc number) h =
     (changed_over f first d calls number (omega arith)
     ∙ ap (λ n. replicate first d ++ changed f calls n) (sym same))
 
-pub start_over : (first : ℕ) (d : Judged) (calls : List Judged) (number : ℕ) → first ≤ number
-    → start_of (replicate first d ++ calls) number ≡ start_of calls (number - first)
-start_over zero d calls number h =
-    let same : number - 0 ≡ number = omega arith in
-    ap (start_of calls) (sym same)
-start_over (suc first) d calls zero h = absurd (omega arith)
-start_over (suc first) d calls (suc number) h =
-    let same : suc number - suc first ≡ number - first = omega arith in
-    start_over first d calls number (omega arith) ∙ ap (start_of calls) (sym same)
+pub start_over : (first : ℕ) (calls : List Judged) (number : ℕ) → first ≤ number
+    → start_of (replicate first forgotten ++ calls) number ≡ start_of calls (number - first)
+start_over first calls number h = ap (option_and_then stopped) (get_kept first calls number h)
 
 module _ (first : ℕ) (calls : List Judged) (number : ℕ) (r : SeenReply) (kept : first ≤ number)
   where
@@ -104,7 +93,7 @@ module _ (first : ℕ) (calls : List Judged) (number : ℕ) (r : SeenReply) (kep
 
     pub starts_kept : ((start : ℕ) → start_of all number ≡ Some start → first ≤ start)
         → (start : ℕ) → start_of calls (number - first) ≡ Some start → first ≤ start
-    starts_kept starts start is = starts start (start_over first forgotten calls number kept ∙ is)
+    starts_kept starts start is = starts start (start_over first calls number kept ∙ is)
 
     shown_over : (start : Option ℕ)
         → ((from : ℕ) → start ≡ Some from → first ≤ from)
@@ -121,7 +110,7 @@ module _ (first : ℕ) (calls : List Judged) (number : ℕ) (r : SeenReply) (kep
         → replicate first forgotten ++ set reported (number - first) n ≡ calls_answered all number r
     answered_over starts reported tells c n is new =
         let at = number - first in
-        let begun = start_over first forgotten calls number kept in
+        let begun = start_over first calls number kept in
         let answer : Judged → Judged = λ x. judged_answered x r in
         ap (λ (l : List Judged). replicate first forgotten ++ l)
         (changed_at answer reported at c n is new)
@@ -134,7 +123,7 @@ module _ (first : ℕ) (calls : List Judged) (number : ℕ) (r : SeenReply) (kep
 pub end_is : (s : Service) (number line : ℕ) (r : SeenReply) (calls : List Judged)
     (c : Judged) (given : Option Handle) (es : List Event) (ps : List ℕ)
     → calls ≡ calls_answered s.calls number r
-    → slice_get s.calls number ≡ Some c → given ≡ given_in s (role_added c) r
+    → slice_get s.calls number ≡ Some c → given ≡ given_in s.line (role_added c) r
     → es ≡ s.events ++ End number ∷ [] → ps ≡ s.event_lines ++ line ∷ []
     → (made : Service) → made ≡ record {
       line = s.line;
@@ -148,8 +137,7 @@ pub end_is : (s : Service) (number line : ℕ) (r : SeenReply) (calls : List Jud
       event_lines = ps;
     } → made ≡ with_end s number r line
 end_is s number line r calls c given es ps a there gives e f made same =
-    let b : given ≡ given_in s (added_by (slice_get s.calls number)) r =
-    gives ∙ ap (λ (x : Option Judged). given_in s (added_by x) r) (sym there) in
+    let b : given ≡ given_in s.line (added_by (slice_get s.calls number)) r = rw there gives in
     same ∙ rw (a, b, e, f) refl
 
 pub length_shown_from : (first : ℕ) (calls : List Judged) (start : Option ℕ) (r : SeenReply)
@@ -182,15 +170,8 @@ forget_is old s begun calls first followed same from is less kept rest events le
     ∙ (ap (λ n. drop n (replicate begun forgotten ++ calls)) at ∙ ap (drop first) (sym is))) in
     m ∙ (rw (c, left, b, p) refl ∙ ap (λ (x : Service). forgetting x first followed) same)
 
-pub start_under : (first : ℕ) (d : Judged) (calls : List Judged) (number : ℕ) → number < first
-    → (stopped d ≡ None → start_of (replicate first d ++ calls) number ≡ None)
-start_under zero d calls number h none = absurd (omega arith)
-start_under (suc first) d calls zero h none = none
-start_under (suc first) d calls (suc number) h none =
-    start_under first d calls number (omega arith) none
-
-pub start_past : (calls : List Judged) (number : ℕ) → length calls ≤ number
-    → start_of calls number ≡ None
-start_past [] number h = refl
-start_past (x ∷ calls) zero h = absurd (omega arith)
-start_past (x ∷ calls) (suc number) h = start_past calls number (omega arith)
+pub start_under : (first : ℕ) (calls : List Judged) (number : ℕ) → number < first
+    → start_of (replicate first forgotten ++ calls) number ≡ None
+start_under zero calls number h = absurd (omega arith)
+start_under (suc first) calls zero h = refl
+start_under (suc first) calls (suc number) h = start_under first calls number (omega arith)

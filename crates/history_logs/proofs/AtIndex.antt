@@ -1,8 +1,5 @@
 -- Elements at an index.
-use Rattle.std.proofs.Common.{◌≡◌, ◌⊎◌, ℕ, zero, suc, ◌<◌, List, [], ◌∷◌, ◌++◌, All, Some, length, refl, ap, subst, arith, inl, inr, slice_get, ◌∙◌, get_or, sym}
-use Rattle.std.proofs.lemmas.List.{get_or_push, length_push}
-use Rattle.std.proofs.lemmas.Option.{get_or_from_slice_get, same_Some, slice_get-get_or, slice_get_read, slice_get_within}
-use Rattle.std.specs.List.{slice_set}
+use Rattle.history_logs.proofs.Words.{All, List, Some, [], ap, arith, get_or, get_or_from_slice_get, get_or_push, inl, inr, length, length_push, refl, same_Some, slice_get, slice_get-get_or, slice_get_read, slice_get_within, slice_set, subst, suc, sym, zero, ℕ, ◌++◌, ◌<◌, ◌∙◌, ◌∷◌, ◌≡◌, ◌⊎◌}
 use Rattle.iox2_container.proofs.ListEdits.{get_set_same}
 
 pub get_same : {X : Type 0} (xs : List X) (i : ℕ) (a b : X) → slice_get xs i ≡ Some b

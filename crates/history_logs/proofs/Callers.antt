@@ -1,25 +1,20 @@
 -- What callers do.
-use Rattle.std.proofs.Common.{◌<◌, ◌≡◌, ℕ, List, Bool, true, false, Some, IsFalse, IsTrue, MatchBool, HoldsAt, length, get_or, refl, sym, ◌∙◌, ap}
+use Rattle.history_logs.proofs.Words.{BTreeMap, Bool, CallerState, IsDistinct-from_sorted, IsOn, IsOrdered, IsTrue, List, NoneCalls, Sets, Some, UpdatesBy, ap, bytes_eq-Decides, callers_of, false, get_or, is_eq, keys, length, nat_cmp, refl, sym, true, ℕ, ◌<◌, ◌∙◌, ◌≡◌}
+use Rattle.std.proofs.Common.{IsFalse, MatchBool, HoldsAt}
 use Rattle.std.specs.Global.{Vec}
-use Rattle.std.specs.BTreeMap.{BTreeMap, IsOrdered, UpdatesBy, keys, values}
+use Rattle.std.specs.BTreeMap.{values}
 use Rattle.std.specs.Cmp.{IsTotalOrder}
 use Rattle.std.specs.Cmp.Lexicographic.{slice_cmp}
 use Rattle.std.specs.List.{AllWithin}
 use Rattle.std.specs.Map.{KeepsOthers}
-use Rattle.std.specs.Ordering.{is_eq, nat_cmp}
 use Rattle.std.specs.declared.cmp.Ordering.{Ordering}
 use Rattle.std.proofs.lemmas.Bool.{false_from_ne_true}
 use Rattle.std.proofs.lemmas.Cmp.{eq_by_cmp_equiv, nat_list_cmp_total, on_total}
 use Rattle.std.proofs.lemmas.List.Elements.{All-from_all_within, Contains-get_or}
-use Rattle.std.proofs.lemmas.Map.Keys.{IsDistinct-from_sorted}
 use Rattle.std.proofs.lemmas.Map.Made.{Contains-from_values_of}
 use Rattle.std.proofs.lemmas.Map.Text.{is_eq-slice_cmp}
 use Rattle.std.proofs.lemmas.Map.Views.{IfSome-lookup_from_All, lookup-from_Contains}
-use Rattle.std.proofs.lemmas.Slice.Eq.{bytes_eq-Decides}
-use Rattle.history_logs.specs.declared.logs.callers.CallerState.{CallerState}
 use Rattle.history_logs.specs.declared.logs.callers.CallerState.TheVariants as caller
-use Rattle.history_logs.specs.Fields.{IsOn, callers_of}
-use Rattle.history_logs.specs.Reading.{NoneCalls, Sets}
 
 -- the order of names
 abbrev name_cmp : Vec ℕ → Vec ℕ → Ordering

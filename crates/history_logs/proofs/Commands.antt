@@ -1,12 +1,8 @@
 -- The commands of calls, by the lines in which the calls begin.
-use Rattle.std.proofs.Common.{◌≡◌, ◌↔◌, ℕ, Bool, IsTrue, false, suc, ◌+◌, ◌-◌, ◌<◌, ◌≤◌, List, ◌∷◌, ◌++◌, refl, sym, ◌∙◌, subst, arith, inl, inr}
+use Rattle.history_logs.proofs.Words.{Bool, HasCommand, HasNo, IsCommandOf, IsLine, IsLineAt, IsTrue, Line, List, add-one, arith, begin, call, cases_lt, false, inl, inr, line_text, one_way, refl, reply, subst, suc, sym, ℕ, ◌++◌, ◌+◌, ◌-◌, ◌<◌, ◌↔◌, ◌∙◌, ◌∷◌, ◌≡◌, ◌≤◌}
 use Rattle.std.specs.Borrow.{Bor}
-use Rattle.std.proofs.lemmas.Bool.{cases_lt}
-use Rattle.line_streams.specs.Spelling.{HasNo}
-use Rattle.log_lines.specs.Lines.{IsLine, Line, line_text}
-use Rattle.log_lines.specs.Lines.Line.{begin, call, reply}
-use Rattle.log_lines.proofs.OneReading.{notes_are_none, one_way}
-use Rattle.history_logs.specs.EventLines.{HasCommand, IsCommand, IsCommandOf, IsLineAt, IsNoteOrReply}
+use Rattle.log_lines.proofs.OneReading.{notes_are_none}
+use Rattle.history_logs.specs.EventLines.{IsCommand, IsNoteOrReply}
 use Rattle.history_logs.proofs.LinesAt.{LeftIn, line_first, no_line}
 
 -- a call that begins in the line of its command
@@ -40,11 +36,9 @@ note_or_reply_more bytes k text is there h = (
     there = h.2.there;
     upto = omega (arith, h.2.upto);
     below = λ later above upto.
-        elim (cases_lt k later)
-        as (λ _. (other : List ℕ) × IsNoteOrReply other × IsLineAt bytes later other) [
+        elim (cases_lt k later) [
           | inl last ↦
-              let same : k + 1 ≡ later = omega arith in
-              (text, is, subst (λ n. IsLineAt bytes n text) same there)
+              let same : later ≡ k + 1 = omega arith in (text, is, rw same there)
           | inr before ↦ h.2.below later above before
         ];
   },
@@ -85,42 +79,37 @@ module _ (log : List ℕ) (i : ℕ) (rest text after : List ℕ) (none : HasNo 1
     (split : rest ≡ text ++ 10 ∷ after) (left : IsLeft log i rest) where
   next_line : (line : List ℕ) → IsLineAt log (i + 1) line → line ≡ text
   next_line line there =
-      let same : i + 1 ≡ suc i = omega arith in
       line_first rest text after line none split
-      (left i 0 line (omega arith) (subst (λ n. IsLineAt log n line) same there))
+      (left i 0 line (omega arith) (rw add-one at there))
 
   pub note_or_reply_next : (found : ℕ × Bor (List ℕ)) → IsNoteOrReply text → IsFoundIn log i found
       → IsFoundIn log (i + 1) found
   note_or_reply_next found skipped is at own c =
-      elim (cases_lt i at) as (λ _. (found.0 ≡ at) × (found.1.now ≡ own)) [
+      elim (cases_lt i at) [
         | inl last ↦
             let same : at ≡ i + 1 = omega (arith, c.upto) in
-            let spelled : line_text c.line ≡ text =
-            c.spelled ∙ next_line own (subst (λ n. IsLineAt log n own) same c.there) in
-            absurd (no_note_or_reply c.line c.is c.command
-            (subst IsNoteOrReply (sym spelled) skipped))
+            let spelled = c.spelled ∙ next_line own (rw same at c.there) in
+            absurd (no_note_or_reply c.line c.is c.command (rw spelled skipped))
         | inr before ↦ is at own (above log i (i + 1) at own c before (omega arith))
       ]
 
   pub command_next : (found : ℕ × Bor (List ℕ)) → (¬ (IsNoteOrReply text)) → found.0 ≡ i + 1
       → found.1.now ≡ text → IsFoundIn log (i + 1) found
   command_next found command line its at own c =
-      elim (cases_lt i at) as (λ _. (found.0 ≡ at) × (found.1.now ≡ own)) [
+      elim (cases_lt i at) [
         | inl last ↦
-            let same : at ≡ i + 1 = omega (arith, c.upto) in (
-              line ∙ sym same,
-              its ∙ sym (next_line own (subst (λ n. IsLineAt log n own) same c.there)),
-            )
+            let same : at ≡ i + 1 = omega (arith, c.upto) in
+            (line ∙ sym same, its ∙ sym (next_line own (rw same at c.there)))
         | inr before ↦
             let other = c.below (i + 1) (omega arith) (omega arith) in
-            absurd (command (subst IsNoteOrReply (next_line other.0 other.2) other.1))
+            absurd (command (rw (next_line other.0 other.2) at other.1))
       ]
 
 -- no line is left
 pub found_last : (log : List ℕ) (i : ℕ) (rest : List ℕ) (k : ℕ) (found : ℕ × Bor (List ℕ))
     → HasNo 10 rest → i < k → IsLeft log i rest → IsFoundIn log i found → IsFoundIn log k found
 found_last log i rest k found none h left is at own c =
-    elim (cases_lt i at) as (λ _. (found.0 ≡ at) × (found.1.now ≡ own)) [
+    elim (cases_lt i at) [
       | inl below ↦
           let same : at ≡ suc (at - 1) = omega arith in
           absurd (no_line rest (suc (at - 1 - i)) own none
@@ -133,8 +122,7 @@ found_last log i rest k found none h left is at own c =
 pub found_end : (log : List ℕ) (i k : ℕ) (found : ℕ × Bor (List ℕ)) → i ≤ k → k ≤ i
     → IsFoundIn log i found → IsFoundIn log k found
 found_end log i k found least most is =
-    let same : i ≡ k = omega arith in
-    subst (λ n. IsFoundIn log n found) same is
+    let same : k ≡ i = omega arith in rw same is
 
 -- by the test of a line, it is a command
 pub is_command : (P : Type 0) (test : Bool) → (IsTrue test ↔ P) → test ≡ false → ¬ P

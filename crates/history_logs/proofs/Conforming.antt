@@ -1,36 +1,19 @@
 -- What settles of all services while a log is read.
-use Rattle.std.proofs.Common.{◌≡◌, ◌≢◌, ℕ, ◌+◌, ◌<◌, ◌≤◌, true, List, [], ◌∷◌, ◌++◌, All, Option, Some, None, get_or, get_or-set_other, get_or-set_same, length, refl, sym, ◌∙◌, ap, subst, arith, inl, inr, slice_get, take, take_all, sum}
-use Rattle.std.specs.BTreeMap.{BTreeMap}
-use Rattle.std.specs.Prelude.{◌==◌, eqb, sum_by}
-use Rattle.std.specs.List.{slice_set}
+use Rattle.history_logs.proofs.Words.{All, All-nil, AreNumbers, AreRightShort, AreSameFronts, AreShort, BTreeMap, Begin, Contains-push, Crash, End, Event, Front, GoesShort, HasNo, HasShort, HaveShort, IsAbove, IsOrderly, IsReadTo, IsSane, IsSeenRightly, IsShortAbove, List, Log, MayFollow, None, Option, Service, Some, StayAll, Stays, StepOf, Takes, Watched, [], ap, arith, cases_lt, end_verdict, eqb, front_at, get_or, get_or_default, inl, inr, length, length-set, news, numbers_in, refl, services_in, slice_get, slice_get_within, slice_set, subst, sum-map, sum_by, sym, take, take_all, true, ℕ, ◌++◌, ◌+◌, ◌<◌, ◌==◌, ◌∙◌, ◌∷◌, ◌≡◌, ◌≢◌, ◌≤◌}
+use Rattle.histories.specs.Histories.{begun}
+use Rattle.std.proofs.Common.{get_or-set_other, get_or-set_same, sum}
 use Rattle.std.specs.Set.{distinct_count}
-use Rattle.std.proofs.lemmas.Bool.{cases_lt}
-use Rattle.std.proofs.lemmas.List.{get_or_default, length-set}
-use Rattle.std.proofs.lemmas.List.Elements.{All-nil, Contains-push}
-use Rattle.std.proofs.lemmas.List.Sums.{sum-map}
-use Rattle.std.proofs.lemmas.Option.{slice_get_within}
-use Rattle.histories.specs.declared.event.Event.{Event}
-use Rattle.histories.specs.declared.event.Event.TheVariants.{Begin, End, Crash}
-use Rattle.histories.specs.declared.front.Front.{Front}
-use Rattle.histories.specs.Histories.{IsExplained, begun}
+use Rattle.histories.proofs.Counting.{not_some}
 use Rattle.histories.proofs.Events.{begins_none}
 use Rattle.histories.proofs.Frontiers.{explains_none}
 use Rattle.histories.proofs.Growing.{goes_explained}
-use Rattle.line_streams.specs.Spelling.{HasNo}
-use Rattle.service_conformance.specs.Looks.{Watched, unwatched}
-use Rattle.history_logs.specs.Good.{IsAbove, IsOrderly, IsReadTo, Takes}
-use Rattle.history_logs.specs.Judging.{end_verdict}
-use Rattle.history_logs.specs.Logs.{IsSeenRightly, Judged, StepOf, news, services_in}
-use Rattle.history_logs.specs.Fields.{AreNumbers, numbers_in}
-use Rattle.history_logs.specs.Reading.{IsSane, Log}
-use Rattle.history_logs.specs.Seen.{Service}
-use Rattle.history_logs.specs.Settling.{AreRightShort, AreSameFronts, GoesShort, HasShort, HaveShort, IsRightShort, IsShortAbove, StayAll, Stays}
-use Rattle.history_logs.specs.Shortened.{AreShort, IsShort, IsShortLog, front_at}
+use Rattle.service_conformance.specs.Looks.{unwatched}
+use Rattle.history_logs.specs.Logs.{Judged}
+use Rattle.history_logs.specs.Settling.{IsRightShort}
 use Rattle.history_logs.proofs.Above.{above_more, read_whole}
 use Rattle.history_logs.proofs.AtIndex.{all_get, all_of}
 use Rattle.history_logs.proofs.Judgements.{judged_conforms}
 use Rattle.history_logs.proofs.Named.{map_same, same_numbers, set_back}
-use Rattle.history_logs.proofs.Settled.{events_split}
 use Rattle.history_logs.proofs.ShortLogs.{found_at, goes_line, short_put, short_sane}
 
 -- where no call was seen, nothing was
@@ -38,39 +21,28 @@ explained_none : (s : Service) → IsOrderly s → length s.calls ≡ 0 → IsSe
 unfolding begun
 explained_none s o none = nothing s.events refl
   where
+    first : (es : List Event) (e : Event) → s.events ≡ e ∷ es → MayFollow [] e
+    first es e is = o.history 0 e (ap (λ (l : List Event). slice_get l 0) is)
+
     nothing : (es : List Event) → s.events ≡ es → IsSeenRightly s
     nothing [] is =
         let old = unwatched s.start in
-        subst (λ (l : List Event). IsExplained (StepOf s) l (news s)) (sym is)
-        (old, [], old, Contains-push [] old, explains_none (StepOf s) old)
+        rw is (old, [], old, Contains-push [] old, explains_none (StepOf s) old)
     nothing (Begin c ∷ es) is = absurd (omega (arith, ap begun is))
-    nothing (End c ∷ es) is =
-        let before = (o.history 0 (End c) (ap (λ (l : List Event). slice_get l 0) is)).0 in
-        absurd (omega (arith, begins_none c))
-    nothing (Crash c ∷ es) is =
-        let before = (o.history 0 (Crash c) (ap (λ (l : List Event). slice_get l 0) is)).0 in
-        absurd (omega (arith, begins_none c))
+    nothing (End c ∷ es) is = absurd (omega (arith, (first es (End c) is).0, begins_none c))
+    nothing (Crash c ∷ es) is = absurd (omega (arith, (first es (Crash c) is).0, begins_none c))
 
 pub right_none : (live : Service) (front : Option (Front Watched)) → (¬ (0 < length live.calls))
     → IsRightShort live front
-right_none live front none s o k =
-    explained_none s o (omega (arith, none_is, ap (λ (x : Service). length x.calls) k.is))
-  where
-    none_is : length live.calls ≡ 0
-    none_is = elim (cases_lt 0 (length live.calls)) as (λ _. length live.calls ≡ 0) [
-      | inl some ↦ absurd (none some)
-      | inr few ↦ omega arith
-    ]
+right_none live front none s o k = explained_none s o (sym k.count ∙ not_some _ none)
 
 -- the front has gone on with all that was seen
 pub right_after : (live : Service) (old new : Front Watched) (count : ℕ)
     → length live.events ≤ count → GoesShort live old count new → IsRightShort live (Some old)
 right_after live old new count all goes s o k =
     let f = goes s o k s.calls refl in
-    subst (λ (l : List Event). IsExplained (StepOf s) l (news s))
-    (ap (λ (l : List Event). k.keeps.has.past ++ l) (take_all count live.events all)
-    ∙ sym (events_split live s old k))
-    (goes_explained (StepOf s) (news s) (k.keeps.has.past ++ take count live.events)
+    rw (k.events, ← take_all count live.events all)
+    (goes_explained (StepOf s) (news s) (k.past ++ take count live.events)
     (record { begin = f.0; front = new }) f.1)
 
 -- a front at an index
@@ -94,26 +66,36 @@ numbers_stay m live new fronts next h stay =
 
 -- one service settles
 module _ (old live : List Service) (fronts mid : List (Option (Front Watched))) (at : ℕ)
-    (t : Service) (here : slice_get live at ≡ Some t) (stay : StayAll old fronts live mid)
+    (t : Service) (front : Option (Front Watched)) (here : slice_get live at ≡ Some t)
+    (own : front_at mid at ≡ front) (stay : StayAll old fronts live mid)
   where
-    pub has_short : HaveShort old fronts → HasShort t (front_at mid at)
+    pub has_short : HaveShort old fronts → HasShort t front
     has_short h =
         let f = found_at h.0 live mid at t (stay h.0 h.1 h.2) here in
-        (f.0, all_get IsOrderly h.0 at f.0 h.1 f.1, f.2)
+        (f.0, all_get IsOrderly h.0 at f.0 h.1 f.1, rw own at f.2)
 
-    pub stay_set : (next : Service) (front : Option (Front Watched)) → at < length mid
-        → Stays t (front_at mid at) next front
-        → StayAll old fronts (slice_set live at next) (slice_set mid at front)
-    stay_set next front within is services o b =
+    pub stay_set : (next : Service) (new : Option (Front Watched)) → at < length mid
+        → Stays t front next new
+        → StayAll old fronts (slice_set live at next) (slice_set mid at new)
+    stay_set next new within is services o b =
         let a = stay services o b in
         let f = found_at services live mid at t a here in
-        let short = is f.0 (all_get IsOrderly services at f.0 o f.1) f.2 in
-        let more = slice_set mid at front in
+        let short = is f.0 (all_get IsOrderly services at f.0 o f.1) (rw own at f.2) in
+        let more = slice_set mid at new in
         subst (λ (l : List Service). AreShort l (slice_set live at next) more)
         (set_back services at f.0 f.1)
-        (short_put services live mid more at f.0 f.0 next t a f.1 here (length-set mid at front)
-        (λ i other. get_or-set_other mid at i front None other)
-        (subst (IsShort f.0 next) (sym (get_or-set_same mid at front None within)) short))
+        (short_put services live mid more at f.0 f.0 next t a f.1 here (length-set mid at new)
+        (λ i other. get_or-set_other mid at i new None other)
+        (rw (get_or-set_same mid at new None within) short))
+
+-- each service has the front that it had, or none
+pub stay_same : (live : List Service) (old new : List (Option (Front Watched)))
+    → length new ≡ length live → AreSameFronts old new → StayAll live old live new
+stay_same live old new long same services o a = (
+  a.0,
+  omega (arith, a.0),
+  λ at s t there here. rw (same at) (a.2 at s t there here),
+)
 
 -- the services below an index are explained, and from there on each has its front
 pub record AreRightTo (live : List Service) (fronts left : List (Option (Front Watched)))
@@ -132,31 +114,29 @@ right_to_none live fronts left long same = record {
 }
 
 module _ (live : List Service) (fronts left : List (Option (Front Watched))) (at : ℕ)
-    (t : Service) (here : slice_get live at ≡ Some t) (r : AreRightTo live fronts left at)
+    (t : Service) (front : Option (Front Watched)) (here : slice_get live at ≡ Some t)
+    (own : front_at left at ≡ front) (r : AreRightTo live fronts left at)
   where
-    pub right_short : HaveShort live fronts → HasShort t (front_at left at)
-    right_short h =
-        let f = found_at h.0 live fronts at t h.2 here in (
-          f.0,
-          all_get IsOrderly h.0 at f.0 h.1 f.1,
-          subst (IsShort f.0 t) (sym (r.ahead at (omega arith))) f.2,
-        )
+    same_front : front_at fronts at ≡ front
+    same_front = sym (r.ahead at (omega arith)) ∙ own
 
-    pub right_to_more : (front : Option (Front Watched)) → IsRightShort t (front_at left at)
-        → AreRightTo live fronts (slice_set left at front) (at + 1)
-    right_to_more front is = record {
-      long = length-set left at front ∙ r.long;
+    pub right_short : HaveShort live fronts → HasShort t front
+    right_short h =
+        let f = found_at h.0 live fronts at t h.2 here in
+        (f.0, all_get IsOrderly h.0 at f.0 h.1 f.1, rw same_front at f.2)
+
+    pub right_to_more : (new : Option (Front Watched)) → IsRightShort t front
+        → AreRightTo live fronts (slice_set left at new) (at + 1)
+    right_to_more new is = record {
+      long = length-set left at new ∙ r.long;
       ahead = λ i h.
-          get_or-set_other left at i front None (λ e. absurd (omega arith))
-          ∙ r.ahead i (omega arith);
-      right = λ services o a i s h there. elim (cases_lt i at) as (λ _. IsSeenRightly s) [
+          get_or-set_other left at i new None (λ e. absurd (omega arith)) ∙ r.ahead i (omega arith);
+      right = λ services o a i s h there. elim (cases_lt i at) [
         | inl below ↦ r.right services o a i s below there
         | inr above ↦
-            let same : at ≡ i = omega arith in
-            let own : slice_get services at ≡ Some s =
-            subst (λ j. slice_get services j ≡ Some s) (sym same) there in
-            is s (all_get IsOrderly services at s o own)
-            (subst (IsShort s t) (sym (r.ahead at (omega arith))) (a.2 at s t own here))
+            let same : i ≡ at = omega arith in
+            let own = rw same at there in
+            is s (all_get IsOrderly services at s o own) (rw same_front at (a.2 at s t own here))
       ];
     }
 
@@ -189,8 +169,7 @@ short_none bytes log services waits above = record {
   log = log;
   above = above;
   short = record {
-    services = subst (λ (l : List Service). AreShort l l []) (sym services)
-        (refl, omega arith, λ at s t there here. absurd (cc));
+    services = rw services (refl, omega arith, λ at s t there here. absurd (cc));
     callers = refl;
     waits = refl;
   };
@@ -209,12 +188,12 @@ module _ (bytes : List ℕ) (live : Log) (fronts : List (Option (Front Watched))
     pub short_more : (new : Log) (text after : List ℕ) → HasNo 10 text → rest ≡ text ++ 10 ∷ after
         → Takes live k text None new → IsShortAbove bytes new fronts after (k + 1)
     short_more new text after bars comes t =
-        elim t as (λ _. IsShortAbove bytes new fronts after (k + 1)) [
+        elim t [
           | inl same ↦ record {
             log = h.log;
             above = above_more bytes h.log h.log rest k text after h.above bars comes
                 (inl (same.0, refl));
-            short = subst (λ (x : Log). IsShortLog h.log x fronts) (sym same.1) h.short;
+            short = rw same.1 h.short;
           }
           | inr goes ↦
               let g = goes_line h.log live new fronts k h.short h.above.kept goes.0 goes.3 in
@@ -250,7 +229,7 @@ module _ (bytes : List ℕ) (live : Log) (fronts : List (Option (Front Watched))
         read_short : IsReadTo bytes h.log.services None
         read_short =
             read_whole bytes h.log rest k h.above empty
-            (subst (HasNo 10) (sym empty) (All-nil (λ b. b ≢ 10)))
+            (rw empty (All-nil (λ b. b ≢ 10)))
             (sym h.short.waits ∙ waits) (omega (arith, h.short.services.0))
 
         pub judged_short : AreRightShort live.services fronts

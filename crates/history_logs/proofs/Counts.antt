@@ -1,14 +1,13 @@
 -- Counts after counts.
-use Rattle.std.proofs.Common.{◌≡◌, ◌≢◌, ◌∙◌, ◌∷◌, ◌++◌, [], ℕ, List, Option, Result, Ok, Err, codes, refl, sym, ap, subst, inl, inr, append_assoc, append-nil}
+use Rattle.history_logs.proofs.Words.{AddsCounts, All-nil, All-push, Appends, Err, List, Ok, Option, Result, [], ap, append-nil, append_assoc, codes, inl, inr, refl, subst, sym, ℕ, ◌++◌, ◌∙◌, ◌∷◌, ◌≡◌, ◌≢◌}
 use Rattle.std.specs.Prelude.{OnErr, OnOk}
 use Rattle.std.proofs.KnownBytes.{Appends-nil}
-use Rattle.std.proofs.lemmas.List.Elements.{All-append, All-nil, All-push}
+use Rattle.std.proofs.lemmas.List.Elements.{All-append}
 use Rattle.std.proofs.lemmas.List.Folds.{concat-append}
-use Rattle.std.specs.Io.KnownBytes.{Appends}
 use Rattle.std.specs.List.{concat}
 use Rattle.line_streams.proofs.Written.{appends_more}
 use Rattle.line_streams.specs.Streams.{AppendsBeginning}
-use Rattle.history_logs.specs.Progress.{AddsCounts, IsCount, count_text}
+use Rattle.history_logs.specs.Progress.{IsCount, count_text}
 
 -- nothing is no count
 pub no_counts : (a : Option (List ℕ)) → AddsCounts a a

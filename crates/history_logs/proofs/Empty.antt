@@ -1,16 +1,12 @@
 -- What is given of an empty service.
-use Rattle.std.proofs.Common.{◌≡◌, ◌⊎◌, ◌++◌, ◌∷◌, [], ℕ, Bool, false, List, sym, ◌∙◌, ap, inl, inr, refl}
-use Rattle.std.specs.List.{slice_set}
+use Rattle.history_logs.proofs.Words.{Bool, Gives, List, Service, State, [], ap, false, inl, inr, refl, slice_set, started, sym, unseen, ℕ, ◌++◌, ◌∙◌, ◌∷◌, ◌≡◌, ◌⊎◌}
 use Rattle.iox2_container.specs.State.{RegistryState}
 use Rattle.iox2_dynamic.specs.Service as dynamic
-use Rattle.log_lines.specs.States.{State}
 use Rattle.log_lines.specs.States.State.{nodes, ports, entry}
 use Rattle.service_conformance.specs.Given.{IsUnused, with_nodes, with_ports, with_used}
 use Rattle.service_conformance.specs.Sides.{ports_at}
 use Rattle.service_conformance.proofs.Given.{same_ports}
 use Rattle.history_logs.specs.Laws.{EmptyStatesChangeNothing, IsAnew, IsEmptyState}
-use Rattle.history_logs.specs.Reading.{Gives}
-use Rattle.history_logs.specs.Seen.{Service, started, unseen}
 use Rattle.history_logs.proofs.Named.{set_back}
 
 unchanged : {T : Type 0} (r : RegistryState T) (used : ℕ) (locked : Bool) → IsUnused r → used ≡ 0

@@ -1,9 +1,5 @@
 -- Calls of which the first ones are forgotten.
-use Rattle.std.proofs.Common.{◌≡◌, ◌↔◌, ℕ, zero, suc, ◌+◌, ◌-◌, ◌≤◌, List, [], ◌∷◌, ◌++◌, None, drop, length, replicate, refl, sym, ◌∙◌, ap, arith, slice_get, take}
-use Rattle.std.proofs.lemmas.List.{length-append, length-replicate, length-take-le, take-append-drop}
-use Rattle.service_conformance.specs.Judged.{Judged, WindowStep}
-use Rattle.service_conformance.specs.Looks.{Watched}
-use Rattle.history_logs.specs.Seen.{forgotten}
+use Rattle.history_logs.proofs.Words.{Judged, List, None, Watched, WindowStep, [], ap, arith, drop, forgotten, length, length-append, length-replicate, length-take-le, refl, replicate, slice_get, suc, sym, take, take-append-drop, zero, ℕ, ◌++◌, ◌+◌, ◌-◌, ◌↔◌, ◌∙◌, ◌∷◌, ◌≡◌, ◌≤◌}
 
 pub get_forgotten : {X : Type 0} (first : ℕ) (d : X) (xs : List X) (n : ℕ) → first ≤ n
     → slice_get (replicate first d ++ drop first xs) n ≡ slice_get xs n

@@ -1,17 +1,8 @@
 -- What logs are judged to be.
-use Rattle.std.proofs.Common.{◌≡◌, ℕ, ◌<◌, ◌≤◌, All, Contains, List, Option, Some, None, length, sum_by, refl, sym, ◌∙◌, ap, subst}
-use Rattle.std.proofs.lemmas.List.Elements.{All-weaker}
-use Rattle.histories.specs.declared.window.Stop.{Stop}
+use Rattle.history_logs.proofs.Words.{All, All-weaker, AreJudged, Conforms, Contains, Expected, IsNotBefore, IsReadTo, IsRefusedIn, IsRightAbove, IsSeenRightly, List, Log, ManyConfigs, ManyOpen, None, NoneRefused, NoneRefusedAbove, Option, Refusal, Refused, Service, Some, Stop, StopsIn, Verdict, end_verdict, length, refl, services_in, subst, sum_by, sym, ℕ, ◌≡◌, ◌≤◌}
 use Rattle.histories.specs.declared.window.Stop.TheVariants as stop
-use Rattle.history_logs.specs.declared.logs.verdict.Expected.{Expected}
-use Rattle.history_logs.specs.declared.logs.verdict.Refusal.{Refusal}
-use Rattle.history_logs.specs.declared.logs.verdict.Verdict.{Verdict}
-use Rattle.history_logs.specs.declared.logs.verdict.Verdict.TheVariants.{Conforms, Refused, ManyConfigs, ManyOpen, BadLine}
-use Rattle.history_logs.specs.Good.{IsReadTo}
-use Rattle.history_logs.specs.Judging.{AreJudged, IsNotBefore, IsRefusedIn, end_verdict}
-use Rattle.history_logs.specs.Logs.{HasGood, IsRefusal, IsRightAbove, IsSeenRightly, Judged, NoneRefused, NoneRefusedAbove, StopsAt, StopsIn, services_in}
-use Rattle.history_logs.specs.Reading.{Log}
-use Rattle.history_logs.specs.Seen.{Service}
+use Rattle.history_logs.specs.declared.logs.verdict.Verdict.TheVariants.{BadLine}
+use Rattle.history_logs.specs.Logs.{HasGood, IsRefusal, Judged, StopsAt}
 use Rattle.history_logs.proofs.Named.{some_service}
 
 -- a bound is passed, and nothing comes before it
@@ -30,12 +21,11 @@ bound_passed bytes services bad k line v why s r has same x before right = (
   (
     s,
     x.0,
-    subst (λ (ss : List Service). StopsAt ss line s x.0 why) (sym r.same) (record {
+    rw (r.same, same) (record {
       is = has;
       stops = x.1.stops;
-      there = x.1.there ∙ ap Some (sym same);
-      above = subst (λ n. All (IsRightAbove n) services) (sym same)
-          (All-weaker (IsNotBefore k v) (IsRightAbove k) (λ t y. (right t y).0) services before);
+      there = x.1.there;
+      above = All-weaker (IsNotBefore k v) (IsRightAbove k) (λ t y. (right t y).0) services before;
       others = All-weaker (IsNotBefore k v) NoneRefused (λ t y. (right t y).1) services before;
     }),
   ),
@@ -48,12 +38,8 @@ refusal_of bytes services k s reported has r above =
     record {
       s = s;
       index = r.index;
-      stops = record {
-        is = has;
-        stops = r.stops.stops;
-        there = r.stops.there ∙ ap Some (sym r.line);
-        above = subst (λ n. All (NoneRefusedAbove n) services) (sym r.line) above;
-      };
+      stops = rw r.line
+          (record { is = has; stops = r.stops.stops; there = r.stops.there; above = above });
       number = r.number;
       ended = r.ended;
       call = r.call;
@@ -79,7 +65,7 @@ judged_found bytes services bad (Refused reported) r f = (
   r.log,
   r.rest,
   r.good,
-  subst (λ (ss : List Service). IsRefusal bytes ss reported) (sym r.same)
+  rw r.same
       (refusal_of bytes services f.0 f.1.0 reported f.1.1 f.1.2 f.1.3),
 )
 judged_found bytes services bad (ManyConfigs line) r f =
@@ -99,13 +85,12 @@ unfolding Judged
 judged_conforms bytes services n m r all calls count = (
   r.count,
   r.log,
-  subst (HasGood bytes r.count r.log) r.ends.0 r.good,
+  rw r.ends.0 at r.good,
   r.ends.1,
   subst (All IsSeenRightly) (sym r.same) all,
-  calls ∙ ap (sum_by (λ (s : Service). length s.commands)) (sym r.same),
-  count ∙ ap services_in (sym r.same),
-  subst (λ x. 0 < x) (sym count) (some_service services
-      (subst (λ (ss : List Service). 0 < length ss) r.same r.ends.2)),
+  rw r.same calls,
+  rw r.same count,
+  rw count (some_service services (rw r.same at r.ends.2)),
 )
 
 -- nothing was found above a line that is bad
@@ -136,6 +121,4 @@ judged_end bytes services (Some bad) r all = judged_bad bytes services bad.0 bad
 pub few_calls : (bytes : List ℕ) (services : List Service) (bad : Option (ℕ × Expected))
     → IsReadTo bytes services bad
     → sum_by (λ (s : Service). length s.commands) services ≤ length bytes
-few_calls bytes services bad r =
-    subst (λ (ss : List Service). sum_by (λ (s : Service). length s.commands) ss ≤ length bytes)
-    r.same r.few
+few_calls bytes services bad r = rw r.same at r.few

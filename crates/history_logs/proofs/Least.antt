@@ -1,15 +1,6 @@
 -- The least call that is open, calls that begin, and calls that are over.
-use Rattle.std.proofs.Common.{◌≡◌, ◌⊎◌, ℕ, zero, suc, ◌<◌, ◌≤◌, List, [], ◌∷◌, Option, Some, None, length, drop, get_or, take, refl, ◌∙◌, ap, subst, arith, inl, inr, min, fold, flat_map, option_to_list}
-use Rattle.std.proofs.lemmas.Bool.{cases_lt}
-use Rattle.std.proofs.lemmas.List.{length-take, take-append-drop}
-use Rattle.std.proofs.lemmas.Option.{same_Some, slice_get-get_or}
-use Rattle.histories.specs.declared.event.Event.{Event}
-use Rattle.histories.specs.declared.event.Event.TheVariants.{Begin}
-use Rattle.histories.specs.Frontier.{HasSlot}
-use Rattle.histories.specs.Histories.{StandsAt, begins}
-use Rattle.histories.proofs.Events.{begins_stands, stands_begins, stands_left, stands_within}
-use Rattle.history_logs.specs.Seen.{Service}
-use Rattle.history_logs.specs.Settling.{AreOver, MayFollowAt}
+use Rattle.history_logs.proofs.Words.{AreOver, Begin, Event, HasSlot, List, MayFollowAt, None, Option, Service, Some, [], ap, arith, begins, cases_lt, flat_map, fold, get_or, inl, inr, length, min, option_to_list, refl, same_Some, slice_get-get_or, stands_begins, stands_take, suc, take, zero, ℕ, ◌<◌, ◌∙◌, ◌∷◌, ◌≡◌, ◌≤◌, ◌⊎◌}
+use Rattle.histories.proofs.Events.{begins_stands}
 
 -- the least number of a call that has a slot, or the limit
 pub record IsLeast (slots : List (Option ℕ)) (limit least : ℕ) : Type 0 where
@@ -68,7 +59,4 @@ pub over_upto : (s : Service) (n : ℕ) → ((k : ℕ) → k < n → MayFollowAt
     → AreOver s (take n s.events)
 over_upto s n each call some =
     let (k, at) = begins_stands call (take n s.events) some in
-    let within = stands_within (take n s.events) k (Begin call) at in
-    each k (omega (arith, within, length-take n s.events)) call
-    (subst (λ (es : List Event). StandsAt es k (Begin call)) (take-append-drop n s.events)
-    (stands_left (take n s.events) (drop n s.events) k (Begin call) at))
+    let there = stands_take s.events n k (Begin call) at in each k there.1 call there.0

@@ -1,3 +1,4 @@
+pub mod Words
 pub mod Starting
 pub mod Empty
 pub mod Above

@@ -1,13 +1,6 @@
 -- The lines of a log by their numbers.
-use Rattle.std.proofs.Common.{◌≡◌, ℕ, zero, suc, ◌+◌, ◌-◌, ◌<◌, ◌≤◌, List, ◌∷◌, ◌++◌, IfOk, Ok, Err, Result, sym, ◌∙◌, subst, arith}
-use Rattle.line_streams.specs.OneWay.{before_one}
-use Rattle.line_streams.specs.Spelling.{HasNo}
+use Rattle.history_logs.proofs.Words.{Answers, HasNo, IsAlike, IsLine, IsLineAt, Line, List, arith, before_one, end, line_text, one_way, reply, subst, suc, sym, zero, ℕ, ◌++◌, ◌+◌, ◌-◌, ◌<◌, ◌∙◌, ◌∷◌, ◌≡◌, ◌≤◌}
 use Rattle.line_streams.proofs.Indices.{has_one}
-use Rattle.log_lines.specs.Laws.{IsAlike}
-use Rattle.log_lines.specs.Lines.{IsLine, Line, line_text}
-use Rattle.log_lines.specs.Lines.Line.{end, reply}
-use Rattle.log_lines.proofs.OneReading.{one_way}
-use Rattle.history_logs.specs.EventLines.{Answers, IsLineAt}
 
 -- the line at a number, once the first line is cut
 pub line_after : (bytes text after : List ℕ) (k : ℕ) (line : List ℕ) → HasNo 10 text
@@ -72,12 +65,6 @@ module _ (log : List ℕ) (count : ℕ) where
   pub left_end : (i : ℕ) (rest line : List ℕ) → i ≤ count → count ≤ i → LeftIn log count i rest
       → IsLineAt log (suc count) line → IsLineAt rest (suc zero) line
   left_end i rest line h k left at = left 0 line (omega arith) at
-
--- where one thing holds of what was made, so does another
-pub if_ok : {A E : Type 0} (P Q : A → Type 0) (r : Result A E) → IfOk r P
-    → ((v : A) → P v → Q v) → IfOk r Q
-if_ok P Q (Ok v) h f = f v h
-if_ok P Q (Err e) h f = h
 
 -- the words of the line that was read
 pub words_said : (text : List ℕ) (l : Line) (w items : List ℕ) → IsLine l × (text ≡ line_text l)

@@ -1,13 +1,10 @@
 -- The lines in which calls begin that were made.
-use Rattle.std.proofs.Common.{◌≡◌, ℕ, Bool, false, IsTrue, ◌+◌, ◌≤◌, List, [], ◌∷◌, ◌++◌, Contains, IsPermutation, Option, Some, inl, inr, length, slice_get, subst, sym, arith, ◌∙◌}
+use Rattle.history_logs.proofs.Words.{All-push, AreLines, AreLinesTo, Bool, Contains, Contains-append_left, Contains-push, HasSlot, IsTrue, List, Option, Some, [], arith, cases_lt, false, inl, inr, length, same_Some, slice_get, subst, sym, ℕ, ◌++◌, ◌+◌, ◌∙◌, ◌∷◌, ◌≡◌, ◌≤◌}
+use Rattle.std.proofs.Common.{IsPermutation}
 use Rattle.std.specs.Int.{bit_at}
-use Rattle.std.proofs.lemmas.Bool.{cases_lt}
-use Rattle.std.proofs.lemmas.List.Elements.{All-push, Contains-append_left, Contains-push}
 use Rattle.std.proofs.lemmas.List.Sorted.{All-permutation, Contains-permutation}
-use Rattle.std.proofs.lemmas.Option.{same_Some}
-use Rattle.histories.specs.Frontier.{HasSlot}
 use Rattle.histories.proofs.Bits.{bit_cases, slot_once, slot_within}
-use Rattle.history_logs.specs.Judging.{AreLines, AreLinesTo, IsLineMade}
+use Rattle.history_logs.specs.Judging.{IsLineMade}
 
 -- a slot that does not wait
 pub not_waiting : (waiting slot : ℕ) (r : Bool) → (bit_at waiting slot ≡ 1 → IsTrue r)

@@ -1,25 +1,18 @@
 -- Services that are named.
-use Rattle.std.proofs.Common.{◌≡◌, ◌≢◌, ℕ, zero, suc, ◌+◌, ◌<◌, ◌≤◌, ◌-◌, ◌==◌, List, [], ◌∷◌, ◌++◌, Bool, true, false, ◌||◌, Option, Some, None, IfNone, IfSome, MatchOption, All, cond, if◌then◌else◌, eqb, get_or, length, map, refl, sym, ◌∙◌, ap, subst, arith, eq-eqb, inl, inr, ne_eqb, slice_get, take, take_all}
+use Rattle.history_logs.proofs.Words.{All-cons, All-head, All-nil, All-tail, AreNumbers, BTreeMap, Bool, IfNone, IfSome, IsDistinct-from_sorted, IsNamed, IsOrdered, List, None, Option, Service, ServiceLine, Some, UpdatesBy, [], ap, arith, cases_eq, cases_order, cond, eqb, false, get_or, if◌then◌else◌, inl, inr, is_eq, keys, length, length-take-le, nat_cmp, numbers_in, option_map, refl, same_Some, services_in, slice_get, slice_get_within, slice_set, subst, suc, sym, take, take_all, true, zero, ℕ, ◌++◌, ◌+◌, ◌-◌, ◌<◌, ◌==◌, ◌||◌, ◌∙◌, ◌∷◌, ◌≡◌, ◌≢◌, ◌≤◌}
+use Rattle.std.proofs.Common.{MatchOption, map, eq-eqb, ne_eqb}
 use Rattle.std.proofs.Math.Seq.{take-suc}
-use Rattle.std.specs.BTreeMap.{BTreeMap, IsOrdered, UpdatesBy, get, keys}
 use Rattle.std.specs.Cmp.{nat_eq_equiv, unsigned_ties}
-use Rattle.std.specs.List.{IsDistinct, list_any, slice_set}
+use Rattle.std.specs.List.{IsDistinct, list_any}
 use Rattle.std.specs.Map.{lookup}
-use Rattle.std.specs.Option.{is_some, option_map, option_or}
-use Rattle.std.specs.Ordering.{eq_by_cmp, is_eq, nat_cmp}
+use Rattle.std.specs.Option.{is_some, option_or}
+use Rattle.std.specs.Ordering.{eq_by_cmp}
 use Rattle.std.specs.Set.{unique_keys}
-use Rattle.std.proofs.lemmas.Bool.{cases_eq, cases_order}
 use Rattle.std.proofs.lemmas.Bool.Decides.{Decides-eqb}
-use Rattle.std.proofs.lemmas.List.Elements.{All-cons, All-head, All-nil, All-tail}
-use Rattle.std.proofs.lemmas.List.{length-map, length-take-le, map-append}
-use Rattle.std.proofs.lemmas.Map.Keys.{IsDistinct-from_sorted}
+use Rattle.std.proofs.lemmas.List.{length-map, map-append}
 use Rattle.std.proofs.lemmas.Map.Made.{is_some-lookup, length-from_keys}
-use Rattle.std.proofs.lemmas.Option.{same_Some, slice_get_within}
-use Rattle.service_descriptions.specs.declared.replay.lines.service_line.ServiceLine.{ServiceLine}
-use Rattle.history_logs.specs.Fields.{AreNumbers, last_of, numbers_in}
-use Rattle.history_logs.specs.Logs.{services_in}
-use Rattle.history_logs.specs.Reading.{HaveNumber, IsNamed, IsNameless, IsNew, IsNewBehind}
-use Rattle.history_logs.specs.Seen.{Service}
+use Rattle.history_logs.specs.Fields.{last_of}
+use Rattle.history_logs.specs.Reading.{HaveNumber, IsNameless, IsNew, IsNewBehind}
 use Rattle.history_logs.proofs.AtIndex.{all_get, get_within}
 
 -- the number of a service

@@ -1,31 +1,18 @@
 -- The calls that a refused reply needs.
-use Rattle.std.proofs.Common.{◌≡◌, inl, inr, ℕ, ◌+◌, ◌-◌, ◌<◌, ◌≤◌, Bool, true, false, List, [], ◌∷◌, ◌++◌, Some, length, get_or, slice_get, take, drop, refl, sym, ◌∙◌, ap, subst, arith, append-nil, take_all}
-use Rattle.std.specs.Prelude.{flat_map}
-use Rattle.std.proofs.lemmas.Bool.{cases_Bool, cases_order, cond_both}
-use Rattle.std.proofs.lemmas.Grind.{flat_map-append}
-use Rattle.std.proofs.lemmas.List.{drop-append-le, length-drop, get_or_append_left, get_or_past, get_or_push, length-take-le, length-append, length_push, take-append-drop, take-take, take_more}
+use Rattle.history_logs.proofs.Words.{AreNeededLines, Begin, Bool, End, Event, IsExplained, IsHistory, IsOrderly, IsStop, IsWindowOf, Judged, List, Service, StandsAt, StepOf, Watched, Window, WindowStep, [], ap, append-nil, arith, begins, cases_Bool, cases_order, drop, events_of, false, flat_map, flat_map-append, get_or, get_or_from_slice_get, get_or_past, get_or_push, inl, inr, length, length-append, length-take-le, length_push, line_begun, news, one_more, refl, same_Some, slice_get_read, stands_begins, stands_take, sym, take, take-append-drop, take-append_seam, take-take, take_all, take_more, true, ℕ, ◌++◌, ◌+◌, ◌-◌, ◌<◌, ◌∙◌, ◌∷◌, ◌≡◌, ◌≤◌}
+use Rattle.std.proofs.lemmas.Bool.{cond_both}
+use Rattle.std.proofs.lemmas.List.{drop-append-le, length-drop, get_or_append_left}
 use Rattle.std.proofs.lemmas.List.Elements.{filter-append}
-use Rattle.std.proofs.lemmas.Option.{same_Some, slice_get-get_or}
-use Rattle.std.proofs.Math.Seq.{take-append_seam}
-use Rattle.histories.proofs.Events.{stands_begins, stands_left, stands_right}
-use Rattle.histories.specs.declared.event.Event.{Event}
-use Rattle.histories.specs.declared.event.Event.TheVariants.{Begin, End}
+use Rattle.histories.proofs.Events.{stands_right}
 use Rattle.histories.specs.Frontier.{IsIdle}
-use Rattle.histories.specs.Histories.{IsExplained, IsHistory, StandsAt, begins}
-use Rattle.histories.proofs.Verdicts.{one_more}
 use Rattle.histories.specs.declared.window.Stop.TheVariants as stop
-use Rattle.histories.specs.declared.window.Window.{Window}
-use Rattle.histories.specs.Needed.{AreIdle, AreNeeded, HasCut, call_of, events_of, is_kept}
-use Rattle.histories.specs.Windows.{IsCut, IsStop, IsWindowOf}
+use Rattle.histories.specs.Needed.{AreIdle, AreNeeded, HasCut, call_of}
 use Rattle.histories.proofs.Following.{history_front}
 use Rattle.histories.proofs.Leaving.{explained_of}
 use Rattle.histories.proofs.Trying.{formed_history, formed_inside, sound_formed}
-use Rattle.service_conformance.specs.Judged.{IsIdleJudged, Judged, JudgedStep, WindowStep}
-use Rattle.service_conformance.specs.Looks.{Watched}
-use Rattle.history_logs.specs.Good.{IsOrderly}
+use Rattle.service_conformance.specs.Judged.{IsIdleJudged}
 use Rattle.history_logs.specs.Judging.{BeginBelow}
-use Rattle.history_logs.specs.Logs.{AreNeededLines, StepOf, events_from, line_begun, lines_begun, news}
-use Rattle.history_logs.specs.Seen.{Service}
+use Rattle.history_logs.specs.Logs.{lines_begun}
 
 -- a call whose reply says that nothing changed, by its number
 pub idle_call : (calls : List Judged) (number : ℕ) (x : Judged) → number < length calls
@@ -34,11 +21,9 @@ pub idle_call : (calls : List Judged) (number : ℕ) (x : Judged) → number < l
 idle_call calls number x h is none old new step =
     let has = step.1 in
     let at : has.0 ≡ number = omega (arith, has.1) in
-    let there : slice_get calls number ≡ Some x =
-    slice_get-get_or calls number x h ∙ ap Some (sym is) in
-    let same : step.0 ≡ x =
-    same_Some step.0 x (sym has.2 ∙ (ap (slice_get calls) at ∙ there)) in
-    none number old new (subst (λ (c : Judged). JudgedStep number c old new) same step.2)
+    let there = slice_get_read calls (length calls) number x refl h is in
+    let same = same_Some step.0 x (sym has.2 ∙ rw at there) in
+    none number old new (rw same at step.2)
 
 -- which of the first calls change nothing
 pub record IdleTo (calls : List Judged) (count : ℕ) (said : List Bool) : Type 0 where
@@ -56,10 +41,8 @@ idle_push calls count idle news b t more new = record {
   idle = λ call is_so.
       let said : get_or (idle ++ b ∷ []) call false ≡ true =
       ap (λ (l : List Bool). get_or l call false) (sym new) ∙ is_so in
-      elim (cases_order call count) as (λ _. IsIdle (WindowStep 0 calls) call) [
-        | inl same ↦
-            subst (IsIdle (WindowStep 0 calls)) (sym same)
-            (more (sym (get_or_push idle b false call (omega arith)) ∙ said))
+      elim (cases_order call count) [
+        | inl same ↦ rw same (more (sym (get_or_push idle b false call (omega arith)) ∙ said))
         | inr (inl below) ↦
             t.idle call (sym (get_or_append_left idle (b ∷ []) false call (omega arith)) ∙ said)
         | inr (inr above) ↦
@@ -105,18 +88,11 @@ lines_more begins kept es i d lines news h is new =
     ∙ sym (ap (flat_map f) one
     ∙ flat_map-append f (events_of kept (take i es)) (events_of kept (e ∷ []))))
 
--- a call that begins is counted
-stands_taken : (es : List Event) (k p : ℕ) (e : Event) → StandsAt (take k es) p e
-    → StandsAt es p e
-stands_taken es k p e at =
-    subst (λ (l : List Event). StandsAt l p e) (take-append-drop k es)
-    (stands_left (take k es) (drop k es) p e at)
-
+-- what stands behind the first events stands in all of them
 stands_dropped : (es : List Event) (k p : ℕ) (e : Event) → StandsAt (drop k es) p e
     → (q : ℕ) × StandsAt es q e
 stands_dropped es k p e at =
-    let r = stands_right (take k es) (drop k es) p e at in
-    (r.0, subst (λ (l : List Event). StandsAt l r.0 e) (take-append-drop k es) r.2)
+    let r = stands_right (take k es) (drop k es) p e at in (r.0, rw take-append-drop at r.2)
 
 module _ {S : Type 0} (Step : S → ℕ → S → Type 0) (olds : List S) (past window : List Event)
     (history : IsHistory (past ++ window)) (c : ℕ) (kept : ℕ → Bool) where
@@ -124,163 +100,88 @@ module _ {S : Type 0} (Step : S → ℕ → S → Type 0) (olds : List S) (past 
   pub keeps_last : IsExplained Step (past ++ window) olds
       → AreNeeded Step olds past (window ++ End c ∷ []) kept → kept c ≡ true
   keeps_last x n =
-      elim (cases_Bool (kept c)) as (λ _. kept c ≡ true) [
+      elim (cases_Bool (kept c)) [
         | inl t ↦ t
         | inr f ↦
             let formed = formed_inside past window history n.cut.quiet in
             let inside : IsExplained Step window n.states =
             (n.cut.same window (sound_formed window formed)
             (sound_formed (past ++ window) (formed_history (past ++ window) history))).0 x in
-            let last : events_of kept (End c ∷ []) ≡ [] = rw f refl in
             let rest : events_of kept (window ++ End c ∷ []) ≡ events_of kept window =
             filter-append (λ e. kept (call_of e)) window (End c ∷ [])
-            ∙ (ap (λ (l : List Event). events_of kept window ++ l) last
-            ∙ append-nil (events_of kept window)) in
+            ∙ rw f (append-nil (events_of kept window)) in
             absurd
             (n.rest.refused
-            (subst (λ (l : List Event). IsExplained Step l n.states) (sym rest)
-            (explained_of kept Step n.rest.others window n.states inside)))
+            (rw rest (explained_of kept Step n.rest.others window n.states inside)))
       ]
 
 module _ (s : Service) (o : IsOrderly s) (begin index : ℕ) (within : begin ≤ index) where
   abbrev upto : List Event
   upto = take (index + 1) s.events
 
-  pub past_is : take begin upto ≡ take begin s.events
+  -- the events from the begin of the window on
+  abbrev window : List Event
+  window = take (length upto - begin) (drop begin upto)
+
+  past_is : take begin upto ≡ take begin s.events
   past_is = take-take begin (index + 1) s.events (omega arith)
 
-  pub parts : take begin upto ++ drop begin upto ≡ upto
-  parts = take-append-drop begin upto
+  window_is : window ≡ drop begin upto
+  window_is =
+      take_all (length upto - begin) (drop begin upto) (omega (arith, length-drop begin upto))
 
-  pub parts_history : IsHistory (take begin upto ++ drop begin upto)
-  parts_history =
-      subst IsHistory (sym parts) (history_front s.events (index + 1) o.history)
+  parts : take begin upto ++ window ≡ upto
+  parts = rw window_is (take-append-drop begin upto)
 
-  pub begin_below : BeginBelow (drop begin upto) (length s.begins)
-  begin_below p call at =
-      let there = stands_dropped upto begin p (Begin call) at in
-      let whole = stands_taken s.events (index + 1) there.0 (Begin call) there.1 in
+  pub window_history : IsHistory (take begin upto ++ window)
+  window_history = rw parts (history_front s.events (index + 1) o.history)
+
+  pub window_cut : HasCut (StepOf s) (news s) (take begin s.events)
+      → HasCut (StepOf s) (news s) (take begin upto)
+  window_cut cut = rw past_is cut
+
+  pub window_begins : BeginBelow window (length s.begins)
+  window_begins p call at =
+      let there = stands_dropped upto begin p (Begin call) (rw window_is at at) in
+      let whole = (stands_take s.events (index + 1) there.0 (Begin call) there.1).0 in
       omega (arith, o.numbered call (stands_begins call s.events there.0 whole))
 
   module _ (stops : IsStop (StepOf s) (news s) s.events index stop.Refused) (refused : ℕ)
       (ended : StandsAt s.events index (End refused)) where
-    pub parts_refused : ¬ (IsExplained (StepOf s) (take begin upto ++ drop begin upto) (news s))
-    parts_refused =
-        subst (λ (l : List Event). ¬ (IsExplained (StepOf s) l (news s))) (sym parts) stops.at.1
+    pub window_refused : ¬ (IsExplained (StepOf s) (take begin upto ++ window) (news s))
+    window_refused = rw parts stops.at.1
 
-    window_last : events_from s begin index ≡ drop begin (take index s.events) ++ End refused ∷ []
+    window_last : window ≡ drop begin (take index s.events) ++ End refused ∷ []
     window_last =
         let there : get_or s.events index (End refused) ≡ End refused =
-        same_Some _ _ (sym (slice_get-get_or s.events index (End refused) stops.within) ∙ ended) in
-        let more : upto ≡ take index s.events ++ End refused ∷ [] =
-        one_more s.events index (End refused) stops.within
-        ∙ ap (λ (e : Event). take index s.events ++ e ∷ []) there in
+        get_or_from_slice_get s.events index (End refused) (End refused) ended in
         let long : length (take index s.events) ≡ index =
         length-take-le index s.events (omega arith) in
-        ap (drop begin) more ∙ drop-append-le begin (take index s.events) (End refused ∷ [])
-        (omega (arith, long))
+        rw (window_is, one_more s.events index (End refused) stops.within, there)
+        (drop-append-le begin (take index s.events) (End refused ∷ []) (omega (arith, long)))
 
     before : take begin s.events ++ drop begin (take index s.events) ≡ take index s.events
     before =
-        ap (λ (l : List Event). l ++ drop begin (take index s.events))
-        (sym (take-take begin index s.events within)) ∙ take-append-drop begin (take index s.events)
+        rw (← take-take begin index s.events within) (take-append-drop begin (take index s.events))
 
     -- what is reported of the calls that are left
-    pub needed_lines : (kept : ℕ → Bool) (past window : List Event) (begins lines : List ℕ)
-        → past ≡ take begin upto → window ≡ drop begin upto → begins ≡ s.begins
-        → AreNeeded (StepOf s) (news s) past window kept
-        → lines ≡ lines_begun begins (events_of kept window)
+    pub window_lines : (kept : ℕ → Bool) (lines : List ℕ)
+        → AreNeeded (StepOf s) (news s) (take begin upto) window kept
+        → lines ≡ lines_begun s.begins (events_of kept window)
         → AreNeededLines s begin index refused lines
-    needed_lines kept past window begins lines p w b needed is =
-        let n : AreNeeded (StepOf s) (news s) (take begin s.events) (events_from s begin index)
-        kept =
-        subst (λ (l : List Event). AreNeeded (StepOf s) (news s) l (events_from s begin index) kept)
-        (p ∙ past_is)
-        (subst (λ (l : List Event). AreNeeded (StepOf s) (news s) past l kept) w needed) in
+    window_lines kept lines needed is =
+        let n = rw past_is at needed in
         let history : IsHistory (take begin s.events ++ drop begin (take index s.events)) =
-        subst IsHistory (sym before) (history_front s.events index o.history) in
+        rw before (history_front s.events index o.history) in
         record {
           kept = kept;
-          needed = n;
+          needed = rw window_is at n;
           is_kept = keeps_last (StepOf s) (news s) (take begin s.events)
-              (drop begin (take index s.events)) history refused kept
-              (subst (λ (l : List Event). IsExplained (StepOf s) l (news s)) (sym before)
-              stops.before)
-              (subst (λ (l : List Event).
-              AreNeeded (StepOf s) (news s) (take begin s.events) l kept) window_last n);
+              (drop begin (take index s.events)) history refused kept (rw before stops.before)
+              (rw window_last at n);
           begin_in = is
-              ∙ (ap (λ (l : List ℕ). lines_begun l (events_of kept window)) b
-              ∙ ap (λ (l : List Event). lines_begun s.begins (events_of kept l)) w);
+              ∙ ap (λ (l : List Event). lines_begun s.begins (events_of kept l)) window_is;
         }
-
-  -- the same of what is said to be that
-  abbrev window_of : List Event → List Event
-  window_of evs =
-      take (length (take (index + 1) evs) - begin) (drop begin (take (index + 1) evs))
-
-  window_is : (evs : List Event) → window_of evs ≡ drop begin (take (index + 1) evs)
-  window_is evs =
-      let all : List Event = take (index + 1) evs in
-      take_all (length all - begin) (drop begin all) (omega (arith, length-drop begin all))
-
-  pub given_below : (evs : List Event) (begins : List ℕ) → evs ≡ s.events → begins ≡ s.begins
-      → BeginBelow (window_of evs) (length begins)
-  given_below evs begins e b =
-      subst (λ (l : List Event). BeginBelow (window_of l) (length begins)) (sym e)
-      (subst (λ (l : List Event). BeginBelow l (length begins)) (sym (window_is s.events))
-      (subst (λ (l : List ℕ). BeginBelow (drop begin upto) (length l)) (sym b) begin_below))
-
-  pub given_history : (evs : List Event) → evs ≡ s.events
-      → IsHistory (take begin (take (index + 1) evs) ++ window_of evs)
-  given_history evs e =
-      subst (λ (l : List Event). IsHistory (take begin (take (index + 1) l) ++ window_of l)) (sym e)
-      (subst (λ (l : List Event). IsHistory (take begin upto ++ l)) (sym (window_is s.events))
-      parts_history)
-
-  module _ (calls : List Judged) (states : List Watched) (evs : List Event)
-      (c : calls ≡ s.calls) (n : states ≡ news s) (e : evs ≡ s.events) where
-    pub given_cut : HasCut (StepOf s) (news s) (take begin s.events)
-        → HasCut (WindowStep 0 calls) states (take begin (take (index + 1) evs))
-    given_cut cut =
-        subst
-        (λ (l : List Judged). HasCut (WindowStep 0 l) states (take begin (take (index + 1) evs)))
-        (sym c)
-        (subst (λ (l : List Watched). HasCut (StepOf s) l (take begin (take (index + 1) evs)))
-        (sym n)
-        (subst (λ (l : List Event). HasCut (StepOf s) (news s) (take begin (take (index + 1) l)))
-        (sym e) (subst (HasCut (StepOf s) (news s)) (sym past_is) cut)))
-
-    module _ (stops : IsStop (StepOf s) (news s) s.events index stop.Refused) (refused : ℕ)
-        (ended : StandsAt s.events index (End refused)) where
-      pub given_refused : ¬ (IsExplained (WindowStep 0 calls)
-          (take begin (take (index + 1) evs) ++ window_of evs) states)
-      given_refused =
-          subst (λ (l : List Judged). ¬ (IsExplained (WindowStep 0 l)
-          (take begin (take (index + 1) evs) ++ window_of evs) states)) (sym c)
-          (subst (λ (l : List Watched). ¬ (IsExplained (StepOf s)
-          (take begin (take (index + 1) evs) ++ window_of evs) l)) (sym n)
-          (subst (λ (l : List Event). ¬ (IsExplained (StepOf s)
-          (take begin (take (index + 1) l) ++ window_of l) (news s))) (sym e)
-          (subst (λ (l : List Event). ¬ (IsExplained (StepOf s) (take begin upto ++ l) (news s)))
-          (sym (window_is s.events)) (parts_refused stops refused ended))))
-
-      pub given_lines : (left_out others : List Bool) (begins lines : List ℕ) → begins ≡ s.begins
-          → others ≡ left_out
-          → AreNeeded (WindowStep 0 calls) states (take begin (take (index + 1) evs))
-          (window_of evs) (is_kept left_out)
-          → lines ≡ lines_begun begins (events_of (is_kept others) (window_of evs))
-          → AreNeededLines s begin index refused lines
-      given_lines left_out others begins lines b o needed is =
-          let past : List Event = take begin (take (index + 1) evs) in
-          let window : List Event = window_of evs in
-          let kept = is_kept left_out in
-          needed_lines stops refused ended kept past window begins lines
-          (ap (λ (l : List Event). take begin (take (index + 1) l)) e)
-          (window_is evs ∙ ap (λ (l : List Event). drop begin (take (index + 1) l)) e) b
-          (subst (λ (l : List Watched). AreNeeded (StepOf s) l past window kept) n
-          (subst (λ (l : List Judged). AreNeeded (WindowStep 0 l) states past window kept) c
-          needed))
-          (is ∙ ap (λ (l : List Bool). lines_begun begins (events_of (is_kept l) window)) o)
 
 -- the window of a reply that is refused
 module _ (s : Service) (index : ℕ) (w : Window Watched) (within : index < length s.events)
@@ -296,9 +197,7 @@ module _ (s : Service) (index : ℕ) (w : Window Watched) (within : index < leng
 
   pub begin_cut : HasCut (StepOf s) (news s) (take w.begin s.events)
   begin_cut =
-      let past : is.past ≡ take w.begin s.events =
-      sym (take-append_seam is.past is.inside)
-      ∙ (ap (take (length is.past)) (sym is.split)
-      ∙ (ap (λ n. take n (take index s.events)) (sym is.begins)
-      ∙ take-take w.begin index s.events begin_within)) in
-      (is.states, subst (λ (l : List Event). IsCut (StepOf s) (news s) l is.states) past is.cut)
+      let past : take w.begin s.events ≡ is.past =
+      rw (← take-take w.begin index s.events begin_within, is.split, is.begins)
+      (take-append_seam is.past is.inside) in
+      (is.states, rw past is.cut)

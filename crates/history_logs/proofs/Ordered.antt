@@ -1,24 +1,12 @@
 -- The lines of calls, in the order in which they took effect.
-use Rattle.std.proofs.Common.{◌≡◌, ℕ, ◌+◌, ◌<◌, ◌≤◌, All, Bool, true, false, IfNone, List, [], ◌∷◌, ◌++◌, Option, Some, None, get_or, length, take, refl, sym, ◌∙◌, subst, arith, take_all}
-use Rattle.std.specs.List.{AllZip}
-use Rattle.std.proofs.lemmas.List.Elements.{All-cons, All-nil}
-use Rattle.std.proofs.lemmas.List.{get_or_default}
-use Rattle.std.proofs.lemmas.Option.{slice_get-get_or}
+use Rattle.history_logs.proofs.Words.{All, All-cons, All-nil, AllZip, AreJudged, BeginsAt, Bool, Conforms, HasEventLines, HasOrders, IfNone, IsFirstFound, IsFoundOf, IsOrderly, IsReadTo, IsSeenRightly, List, None, Option, Service, Some, StepOf, Verdict, Watched, Window, [], arith, comes_before, earlier, end_verdict, false, get_or, get_or_default, length, news, refl, slice_get-get_or, sym, take, take_all, true, ℕ, ◌++◌, ◌+◌, ◌<◌, ◌∙◌, ◌∷◌, ◌≡◌, ◌≤◌}
 use Rattle.histories.specs.Frontier.{IsFrontOf}
 use Rattle.histories.proofs.Counting.{times_at}
-use Rattle.histories.specs.declared.window.Window.{Window}
 use Rattle.histories.specs.Windows.{IsFirstOrder, IsOrder}
 use Rattle.histories.proofs.Ordering.{first_explains}
-use Rattle.service_conformance.specs.Looks.{Watched}
 use Rattle.history_logs.specs.declared.logs.verdict.Order.{Order}
-use Rattle.history_logs.specs.declared.logs.verdict.Verdict.{Verdict}
-use Rattle.history_logs.specs.declared.logs.verdict.Verdict.TheVariants.{Conforms}
-use Rattle.history_logs.specs.Good.{IsOrderly, IsReadTo}
-use Rattle.history_logs.specs.Judging.{AreJudged, AreOrdered, IsFirstFound, IsFoundOf, comes_before, earlier, end_verdict}
-use Rattle.history_logs.specs.Logs.{BeginsAt, HasGood, IsSeenRightly, StepOf, news}
-use Rattle.history_logs.specs.Orders.{HasOrders, IsOrderOf}
-use Rattle.history_logs.specs.EventLines.{HasEventLines}
-use Rattle.history_logs.specs.Seen.{Service}
+use Rattle.history_logs.specs.Judging.{AreOrdered}
+use Rattle.history_logs.specs.Orders.{IsOrderOf}
 use Rattle.history_logs.proofs.Found.{first_next, first_none}
 use Rattle.history_logs.proofs.Telling.{zip_next}
 
@@ -51,7 +39,7 @@ module _ (s : Service) (o : IsOrderly s) (window : Window Watched) (calls : List
     number = b ∙ a;
     order = calls;
     explains = explains;
-    begins = subst (AllZip (BeginsAt s.begins) calls) (sym same) begins;
+    begins = rw same begins;
   }
 
 -- what has an order is explained
@@ -68,7 +56,7 @@ ordered_right (s ∷ services) (o ∷ orders) all =
 pub orders_all : (services : List Service) (i : ℕ) (orders : List Order) → length services ≤ i
     → AreOrdered (take i services) orders → AreOrdered services orders
 orders_all services i orders h all =
-    subst (λ (l : List Service). AllZip IsOrderOf l orders) (take_all i services h) all
+    rw (take_all i services h) at all
 
 -- Of the first services this is found before all else; where nothing is, each has an order.
 pub record OrdersTo (bytes : List ℕ) (services : List Service) (i : ℕ)
@@ -80,7 +68,7 @@ pub orders_none : (bytes : List ℕ) (services : List Service) (orders : List Or
     → OrdersTo bytes services 0 None orders
 orders_none bytes services orders is = record {
   found = first_none bytes;
-  ordered = λ none. subst (AreOrdered []) (sym is) tt;
+  ordered = λ none. rw is tt;
 }
 
 earlier_none : (one other : Option (ℕ × Verdict)) → earlier one other ≡ None
@@ -125,6 +113,6 @@ pub orders_end : (bytes : List ℕ) (services : List Service) (orders : List Ord
 orders_end bytes services orders r all = (
   r.count,
   r.log,
-  subst (HasGood bytes r.count r.log) r.ends.0 r.good,
-  subst (λ (l : List Service). AllZip IsOrderOf l orders) (sym r.same) all,
+  rw r.ends.0 at r.good,
+  rw r.same all,
 )

@@ -1,43 +1,15 @@
 -- What happened on a service stays a history.
-use Rattle.std.proofs.Common.{◌≡◌, ◌≢◌, ℕ, zero, suc, ◌+◌, ◌<◌, ◌≤◌, List, [], ◌∷◌, ◌++◌, Option, Some, None, length, take, refl, sym, ◌∙◌, ap, subst, arith, inl, inr}
-use Rattle.std.proofs.lemmas.Bool.{cases_lt}
-use Rattle.std.proofs.lemmas.List.{length-append, length-set, take-append-le}
-use Rattle.std.proofs.Math.Seq.{take-append_seam}
-use Rattle.histories.specs.declared.event.Event.{Event}
-use Rattle.histories.specs.declared.event.Event.TheVariants.{Begin, End, Crash}
-use Rattle.histories.specs.Histories.{IsHistory, IsOpen, MayFollow, begins, begun}
-use Rattle.histories.proofs.Events.{open_begin_now, open_begin_still, open_end_still, sound_begin, sound_end, sound_none, stands_cases, stands_within}
-use Rattle.histories.proofs.Verdicts.{begun_none, counts_begin, counts_crash, counts_end, next_of, numbered_more, numbered_none}
+use Rattle.history_logs.proofs.Words.{Begin, Begins, Begun, Crash, End, Event, IsOpen, IsOrderly, Judged, List, MayFollow, None, Option, Part, SeenReply, Service, ServiceLine, Some, [], ap, arith, begins, begun, begun_none, called, calls_answered, calls_shown, changed, command, counts_begin, counts_crash, counts_end, inl, inr, judged_answered, length, length-append, length-set, refl, shown, start_of, started, starting, stopping, subst, suc, sym, unseen, weak, with_begin, with_crash, with_end, with_look, with_over, with_part, zero, ℕ, ◌++◌, ◌+◌, ◌∙◌, ◌∷◌, ◌≡◌, ◌≢◌, ◌≤◌}
+use Rattle.histories.proofs.Events.{open_begin_now, open_begin_still, open_end_still, sound_none}
+use Rattle.histories.proofs.Verdicts.{ends_of, history_more, next_fresh, next_of, numbered_more, numbered_none, sound_more}
 use Rattle.iox2_dynamic.specs.Service as dynamic
-use Rattle.service_conformance.specs.declared.conformance.seen_reply.SeenReply.{SeenReply}
-use Rattle.service_conformance.specs.declared.conformance.possible.Part.{Part}
-use Rattle.service_conformance.specs.Judged.{Judged, judged_answered, shown}
-use Rattle.log_lines.specs.Commands.{Begun}
-use Rattle.log_lines.specs.Commands.Begun.{command, weak}
-use Rattle.service_descriptions.specs.declared.replay.lines.service_line.ServiceLine.{ServiceLine}
-use Rattle.history_logs.specs.Good.{IsOrderly}
-use Rattle.history_logs.specs.Seen.{Begins, Service, called, calls_answered, calls_shown, changed, start_of, started, starting, stopping, unseen, with_begin, with_crash, with_end, with_look, with_over, with_part}
+use Rattle.history_logs.specs.Seen.{HasAll}
 
 -- one more in both lists
 pub both : {X Y : Type 0} (xs : List X) (ys : List Y) (x : X) (y : Y) → length xs ≡ length ys
     → length (xs ++ x ∷ []) ≡ length (ys ++ y ∷ [])
 both xs ys x y same =
     omega (arith, length-append xs (x ∷ []), length-append ys (y ∷ []))
-
--- an event that may follow a history makes it one
-pub history_push : (es : List Event) (e : Event) → IsHistory es → MayFollow es e
-    → IsHistory (es ++ e ∷ [])
-history_push es e h may index event at =
-    elim (stands_cases es e index event at) as (λ _. MayFollow (take index (es ++ e ∷ [])) event) [
-      | inl before ↦
-          let within : index < length es = stands_within es index event before in
-          subst (λ (l : List Event). MayFollow l event)
-          (sym (take-append-le index es (e ∷ []) (omega arith))) (h index event before)
-      | inr last ↦
-          subst (λ k. MayFollow (take k (es ++ e ∷ [])) event) (sym last.0)
-          (subst (λ (l : List Event). MayFollow l event) (sym (take-append_seam es (e ∷ [])))
-          (subst (MayFollow es) last.1 may))
-    ]
 
 pub orderly_new : (line : ServiceLine) → IsOrderly (unseen line)
 orderly_new line = record {
@@ -48,9 +20,10 @@ orderly_new line = record {
   numbered = numbered_none;
 }
 
-pub orderly_started : (s : Service) (start : dynamic.Service) → IsOrderly s
-    → IsOrderly (started s start)
-orderly_started s start o = record {
+-- what it is before its first call, and what its commands are, does not count
+orderly_same : (s : Service) (start : dynamic.Service) (commands : List ℕ) → IsOrderly s
+    → IsOrderly (record s { start = start; commands = commands })
+orderly_same s start commands o = record {
   all = record {
     whole = o.all.whole;
     given = o.all.given;
@@ -62,6 +35,10 @@ orderly_started s start o = record {
   sound = o.sound;
   numbered = o.numbered;
 }
+
+pub orderly_started : (s : Service) (start : dynamic.Service) → IsOrderly s
+    → IsOrderly (started s start)
+orderly_started s start o = orderly_same s start s.commands o
 
 pub length_changed : (f : Judged → Judged) (calls : List Judged) (number : ℕ)
     → length (changed f calls number) ≡ length calls
@@ -82,104 +59,87 @@ length_answered calls number r =
 
 -- the next call has not begun
 fresh : (s : Service) → IsOrderly s → begins (length s.calls) s.events ≡ 0
-fresh s o =
-    elim (cases_lt 0 (begins (length s.calls) s.events))
-    as (λ _. begins (length s.calls) s.events ≡ 0) [
-      | inl some ↦ absurd (omega (arith, o.numbered (length s.calls) some))
-      | inr none ↦ omega arith
-    ]
+fresh s o = next_fresh s.events (Begin (length s.calls)) o.numbered
+    (next_of s.events (Begin (length s.calls)) (sym o.counts)) (length s.calls) refl
 
 pub not_open : (s : Service) → IsOrderly s → ¬ (IsOpen s.events (length s.calls))
 not_open s o live = absurd (omega (arith, live.0, fresh s o))
+
+-- an event that may follow comes next
+orderly_event : (s t : Service) (e : Event) → IsOrderly s → MayFollow s.events e
+    → t.events ≡ s.events ++ e ∷ [] → HasAll t → begun (s.events ++ e ∷ []) ≡ length t.calls
+    → IsOrderly t
+orderly_event s t e o may is all counts =
+    let next = next_of s.events e may in
+    record {
+      all = all;
+      history = rw is (history_more s.events e o.history may);
+      counts = rw is counts;
+      sound = rw is (sound_more s.events e o.sound (next_fresh s.events e o.numbered next)
+          (ends_of s.events e may));
+      numbered = rw is (numbered_more s.events e o.numbered next);
+    }
 
 pub orderly_part : (s : Service) (c : Judged) (k : ℕ) → IsOrderly s
     → IsOrderly (with_part s c k)
 orderly_part s c k o =
     let n = length s.calls in
-    let may : MayFollow s.events (Begin n) = sym o.counts in
-    let more = counts_begin (begun s.events) n s.events refl in
-    record {
-      all = record {
-        whole = o.all.whole;
-        given = both s.given s.calls None c o.all.given;
-        begins = both s.begins s.calls k c o.all.begins;
-        event_lines = both s.event_lines s.events k (Begin n) o.all.event_lines;
-      };
-      history = history_push s.events (Begin n) o.history may;
-      counts = omega (arith, length-append s.calls (c ∷ []));
-      sound = sound_begin s.events n o.sound (fresh s o);
-      numbered = numbered_more s.events (Begin n) o.numbered (next_of s.events (Begin n) may);
-    }
-
--- what the commands are does not count
-orderly_same : (s : Service) (commands : List ℕ) → IsOrderly s
-    → IsOrderly (record s { commands = commands })
-orderly_same s commands o = record {
-  all = record {
-    whole = o.all.whole;
-    given = o.all.given;
-    begins = o.all.begins;
-    event_lines = o.all.event_lines;
-  };
-  history = o.history;
-  counts = o.counts;
-  sound = o.sound;
-  numbered = o.numbered;
-}
+    orderly_event s (with_part s c k) (Begin n) o (sym o.counts) refl
+    (record {
+      whole = o.all.whole;
+      given = both s.given s.calls None c o.all.given;
+      begins = both s.begins s.calls k c o.all.begins;
+      event_lines = both s.event_lines s.events k (Begin n) o.all.event_lines;
+    })
+    (omega (
+      arith,
+      o.counts,
+      counts_begin (begun s.events) n s.events refl,
+      length-append s.calls (c ∷ []),
+    ))
 
 pub orderly_begin : (s : Service) (c : Judged) (k : ℕ) → IsOrderly s
     → IsOrderly (with_begin s c k)
 orderly_begin s c k o =
-    orderly_same (with_part s c k) (s.commands ++ length s.calls ∷ []) (orderly_part s c k o)
+    orderly_same (with_part s c k) s.start (s.commands ++ length s.calls ∷ [])
+    (orderly_part s c k o)
 
 pub orderly_over : (s : Service) (number k : ℕ) → IsOrderly s → IsOpen s.events number
     → IsOrderly (with_over s number k)
-orderly_over s number k o live = record {
-  all = record {
-    whole = o.all.whole;
-    given = o.all.given;
-    begins = o.all.begins;
-    event_lines = both s.event_lines s.events k (End number) o.all.event_lines;
-  };
-  history = history_push s.events (End number) o.history live;
-  counts = sym (counts_end (begun s.events) number s.events refl) ∙ o.counts;
-  sound = sound_end s.events (End number) number (inl refl) o.sound live.0;
-  numbered = numbered_more s.events (End number) o.numbered (next_of s.events (End number) live);
-}
+orderly_over s number k o live =
+    orderly_event s (with_over s number k) (End number) o live refl
+    (record {
+      whole = o.all.whole;
+      given = o.all.given;
+      begins = o.all.begins;
+      event_lines = both s.event_lines s.events k (End number) o.all.event_lines;
+    })
+    (sym (counts_end (begun s.events) number s.events refl) ∙ o.counts)
 
 pub orderly_end : (s : Service) (number : ℕ) (r : SeenReply) (k : ℕ) → IsOrderly s
     → IsOpen s.events number → IsOrderly (with_end s number r k)
 orderly_end s number r k o live =
     let answers = sym (length_answered s.calls number r) in
-    record {
-      all = record {
-        whole = o.all.whole;
-        given = length-set s.given number _ ∙ (o.all.given ∙ answers);
-        begins = o.all.begins ∙ answers;
-        event_lines = both s.event_lines s.events k (End number) o.all.event_lines;
-      };
-      history = history_push s.events (End number) o.history live;
-      counts = sym (counts_end (begun s.events) number s.events refl) ∙ (o.counts ∙ answers);
-      sound = sound_end s.events (End number) number (inl refl) o.sound live.0;
-      numbered = numbered_more s.events (End number) o.numbered
-          (next_of s.events (End number) live);
-    }
+    orderly_event s (with_end s number r k) (End number) o live refl
+    (record {
+      whole = o.all.whole;
+      given = length-set s.given number _ ∙ (o.all.given ∙ answers);
+      begins = o.all.begins ∙ answers;
+      event_lines = both s.event_lines s.events k (End number) o.all.event_lines;
+    })
+    (sym (counts_end (begun s.events) number s.events refl) ∙ (o.counts ∙ answers))
 
 pub orderly_crash : (s : Service) (number k : ℕ) → IsOrderly s → IsOpen s.events number
     → IsOrderly (with_crash s number k)
-orderly_crash s number k o live = record {
-  all = record {
-    whole = o.all.whole;
-    given = o.all.given;
-    begins = o.all.begins;
-    event_lines = both s.event_lines s.events k (Crash number) o.all.event_lines;
-  };
-  history = history_push s.events (Crash number) o.history live;
-  counts = sym (counts_crash (begun s.events) number s.events refl) ∙ o.counts;
-  sound = sound_end s.events (Crash number) number (inr refl) o.sound live.0;
-  numbered = numbered_more s.events (Crash number) o.numbered
-      (next_of s.events (Crash number) live);
-}
+orderly_crash s number k o live =
+    orderly_event s (with_crash s number k) (Crash number) o live refl
+    (record {
+      whole = o.all.whole;
+      given = o.all.given;
+      begins = o.all.begins;
+      event_lines = both s.event_lines s.events k (Crash number) o.all.event_lines;
+    })
+    (sym (counts_crash (begun s.events) number s.events refl) ∙ o.counts)
 
 -- which calls are open then
 pub open_new : (s : Service) (c : Judged) (k : ℕ) → IsOrderly s
@@ -254,13 +214,6 @@ begun_look s p k o =
 pub begun_of : (s t : Service) (b : Begun) (k current : ℕ) → IsOrderly s → Begins s b k t current
     → IsBegun s t current
 begun_of s t (command c) k current o begins =
-    subst (IsBegun s t) (sym begins.1)
-    (subst (λ (x : Service). IsBegun s x (length s.calls)) (sym begins.0)
-    (begun_call s (called s c) k o))
-begun_of s t (weak r) k current o (inl looks) =
-    subst (IsBegun s t) (sym looks.3)
-    (subst (λ (x : Service). IsBegun s x (length s.calls + 1)) (sym looks.2)
-    (begun_look s looks.0 k o))
-begun_of s t (weak r) k current o (inr lists) =
-    subst (IsBegun s t) (sym lists.2)
-    (subst (λ (x : Service). IsBegun s x (length s.calls)) (sym lists.1) (begun_call s _ k o))
+    rw (begins.1, begins.0) (begun_call s (called s c) k o)
+begun_of s t (weak r) k current o (inl looks) = rw (looks.3, looks.2) (begun_look s looks.0 k o)
+begun_of s t (weak r) k current o (inr lists) = rw (lists.2, lists.1) (begun_call s _ k o)

@@ -1,24 +1,10 @@
 -- Lines that may not come next.
-use Rattle.std.proofs.Common.{◌≡◌, ◌≢◌, ◌⊎◌, ℕ, List, [], ◌∷◌, true, false, Option, Some, None, Result, Ok, Err, IfOk, length, refl, sym, ◌∙◌, ap, subst, arith, inl, inr}
-use Rattle.std.specs.Prelude.{IsTrue, slice_get}
-use Rattle.std.specs.List.{slice_set}
-use Rattle.std.proofs.lemmas.List.Elements.{All-nil}
-use Rattle.log_lines.specs.Commands.{NamedCommand}
-use Rattle.log_lines.specs.Laws.{IsAlike}
-use Rattle.log_lines.specs.Lines.{IsLine, Line, is_note, line_text}
-use Rattle.log_lines.specs.Lines.Line.{service, call, reply, begin, end, crash, given}
-use Rattle.log_lines.specs.States.{State}
-use Rattle.log_lines.proofs.OneReading.{one_way}
-use Rattle.service_conformance.specs.declared.conformance.seen_reply.SeenReply.{SeenReply}
-use Rattle.service_descriptions.specs.declared.replay.lines.service_line.ServiceLine.{ServiceLine}
-use Rattle.history_logs.specs.declared.logs.callers.CallerState.{CallerState}
+use Rattle.history_logs.proofs.Words.{All-nil, CallerState, Crashes, Does, Err, Expected, GoesOn, HasNoNext, IfOk, IfOk-weaker, IsAlike, IsKept, IsLine, IsNamed, IsSane, IsTrue, Line, List, Log, MayBegin, NamedCommand, None, Ok, Option, Result, Says, SeenReply, Service, ServiceLine, Some, Takes, TakesLine, TakesNext, [], begin, call, called, crash, end, false, given, inl, inr, is_note, is_service, line_text, one_way, refl, reply, service, slice_get, slice_set, subst, sym, true, with_alone, ℕ, ◌∙◌, ◌∷◌, ◌≡◌, ◌≢◌, ◌⊎◌}
 use Rattle.history_logs.specs.declared.logs.callers.CallerState.TheVariants as caller
-use Rattle.history_logs.specs.declared.logs.verdict.Expected.{Expected}
 use Rattle.history_logs.specs.declared.logs.verdict.Expected.TheVariants as expected
-use Rattle.history_logs.specs.Good.{HasNoNext, IsBadLine, IsKept, SaysIn, Takes, TakesLine, TakesNext, is_service}
-use Rattle.history_logs.specs.Logs.{EndsInReturn, IsBadText, IsWrong}
-use Rattle.history_logs.specs.Reading.{Crashes, Does, GoesOn, IsNamed, IsNew, IsRefused, IsSane, Log, MayBegin, RefusesBegin, RefusesCrash, RefusesEnd, Says, StartsAnewAs, StartsAs}
-use Rattle.history_logs.specs.Seen.{Service, called, with_alone}
+use Rattle.history_logs.specs.Good.{IsBadLine, SaysIn}
+use Rattle.history_logs.specs.Logs.{EndsInReturn, IsWrong}
+use Rattle.history_logs.specs.Reading.{IsRefused, RefusesBegin, RefusesCrash, RefusesEnd}
 use Rattle.history_logs.proofs.Named.{one_named, one_index}
 
 -- what was read, where no call waits any more
@@ -40,25 +26,17 @@ replied old new at c s r k text waits there says is =
     (reply says.words, tt, sym says.spelled, (at, c, s, r, waits, there, says.says, is))
 
 -- a line where none waits
-pub next_line : (old new : Log) (k : ℕ) (text : List ℕ) (found : Option Expected)
+same_waits : (old : Log) (w : Option (ℕ × NamedCommand)) → w ≡ None → old.waits ≡ None
+    → record old { waits = w } ≡ old
+same_waits old w none is = rw (none, ← is) refl
+
+next_line : (old new : Log) (k : ℕ) (text : List ℕ) (found : Option Expected)
     (w : Option (ℕ × NamedCommand)) → w ≡ None → old.waits ≡ None
     → TakesNext (record old { waits = w }) k text found new → TakesLine old k text found new
 next_line old new k text None w none is t =
-    let same : record old { waits = w } ≡ old =
-    ap (λ (x : Option (ℕ × NamedCommand)). record {
-      services = old.services;
-      callers = old.callers;
-      waits = x;
-    }) (none ∙ sym is) in
-    (t.0, t.1, t.2, subst (λ (x : Log). GoesOn x k t.0 new) same t.3)
+    (t.0, t.1, t.2, subst (λ (x : Log). GoesOn x k t.0 new) (same_waits old w none is) t.3)
 next_line old new k text (Some e) w none is t =
-    let same : record old { waits = w } ≡ old =
-    ap (λ (x : Option (ℕ × NamedCommand)). record {
-      services = old.services;
-      callers = old.callers;
-      waits = x;
-    }) (none ∙ sym is) in
-    (inr (is, subst (λ (x : Log). IsWrong x text e) same t.0), t.1)
+    (inr (is, subst (λ (x : Log). IsWrong x text e) (same_waits old w none is) t.0), t.1)
 
 empty_get : {X : Type 0} (xs : List X) (i : ℕ) (x : X) → xs ≡ [] → slice_get xs i ≢ Some x
 empty_get [] i x e h = absurd (cc)
@@ -67,14 +45,9 @@ empty_get (y ∷ xs) i x e h = absurd (cc)
 begins_not : (state : Option CallerState) (e : Expected) → MayBegin state → ¬ (RefusesBegin state e)
 begins_not None e may bars = bars
 begins_not (Some caller.Idle) e may bars = bars
-begins_not (Some caller.Dead) e may bars = elim may as (λ _. ⊥) [
-  | inl h ↦ absurd (cc)
-  | inr h ↦ absurd (cc)
-]
-begins_not (Some (caller.Calls at number)) e may bars = elim may as (λ _. ⊥) [
-  | inl h ↦ absurd (cc)
-  | inr h ↦ absurd (cc)
-]
+begins_not (Some caller.Dead) e may bars = elim may [ inl h ↦ absurd (cc) | inr h ↦ absurd (cc) ]
+begins_not (Some (caller.Calls at number)) e may bars =
+    elim may [ inl h ↦ absurd (cc) | inr h ↦ absurd (cc) ]
 
 ends_not : (words : List ℕ) (state : Option CallerState) (e : Expected) (at number : ℕ)
     (r : SeenReply) → RefusesEnd words state e → state ≡ Some (caller.Calls at number)
@@ -92,43 +65,31 @@ crashes_not old new k _ e bars crashes = bars
 refused_not : (log : Log) (k : ℕ) (l m : Line) (new : Log) (e : Expected) → IsKept log
     → log.waits ≡ None → IsRefused log l e → IsAlike l m → ¬ (GoesOn log k m new)
 refused_not log k (service a) (service b) new e kept none bars same g =
-    bars.1 (subst (λ (x : ServiceLine). IsNew x.number log.services) (sym same) g.1)
+    bars.1 (rw same g.1)
 refused_not log k (call a c) (call b d) new e kept none bars same g =
-    bars.1 g.0 g.1 (subst (λ (x : Option ℕ). IsNamed x log.services g.0 g.1) (sym same) g.3)
+    bars.1 g.0 g.1 (rw same g.3)
 refused_not log k (reply v) (reply w) new e kept none bars same g =
     let waits = g.4 in absurd (cc)
 refused_not log k (begin a n c) (begin b o d) new e kept none bars same g =
-    elim bars as (λ _. ⊥) [
-      | inl h ↦ h.1 g.0 g.1
-          (subst (λ (x : Option ℕ). IsNamed x log.services g.0 g.1) (sym same.0) g.3)
-      | inr h ↦ begins_not (log.callers n) e
-          (subst (λ (x : List ℕ). MayBegin (log.callers x)) (sym same.1) g.4) h.1
+    elim bars [
+      | inl h ↦ h.1 g.0 g.1 (rw same.0 g.3)
+      | inr h ↦ begins_not (log.callers n) e (rw same.1 g.4) h.1
     ]
 refused_not log k (end a v) (end b w) new e kept none bars same g =
-    ends_not v (log.callers a) e g.0 g.1 g.3 bars (ap log.callers same.0 ∙ g.5)
-    (subst (λ (x : List ℕ). Says x g.3) (sym same.1) g.7)
+    ends_not v (log.callers a) e g.0 g.1 g.3 bars (rw same.0 g.5) (rw same.1 g.7)
 refused_not log k (crash a) (crash b) new e kept none bars same g =
-    crashes_not log.services new.services k (log.callers a) e bars
-    (subst (λ (x : List ℕ). Crashes log.services k (log.callers x) new.services) (sym same) g.1)
+    crashes_not log.services new.services k (log.callers a) e bars (rw same g.1)
 refused_not log k (given a what) (given b other) new e kept none bars same g =
-    elim bars as (λ _. ⊥) [
-      | inl h ↦ h.1 g.0 g.1
-          (subst (λ (x : Option ℕ). IsNamed x log.services g.0 g.1) (sym same.0) g.4)
+    let own : IsNamed a log.services g.0 g.1 = rw same.0 g.4 in
+    elim bars [
+      | inl h ↦ h.1 g.0 g.1 own
       | inr h ↦
           let f = h.1 in
-          let own = subst (λ (x : Option ℕ). IsNamed x log.services g.0 g.1) (sym same.0) g.4 in
-          let is : g.1 ≡ f.1 = one_named a log.services g.0 f.0 g.1 f.1 own f.2 in
-          let at : g.0 ≡ f.0 = one_index a log.services g.0 f.0 g.1 f.1 own f.2 in
-          elim g.5 as (λ _. ⊥) [
-            | inl first ↦
-                f.3 g.2
-                (subst (λ (x : State). StartsAs f.1 x g.2) (sym same.1)
-                (subst (λ (x : Service). StartsAs x other g.2) is first.0))
-            | inr anew ↦
-                f.4 g.2
-                (subst (λ (x : State). StartsAnewAs log f.0 f.1 x g.2) (sym same.1)
-                (subst (λ (x : Service). StartsAnewAs log f.0 x other g.2) is
-                (subst (λ (i : ℕ). StartsAnewAs log i g.1 other g.2) at anew.0)))
+          let is = one_named a log.services g.0 f.0 g.1 f.1 own f.2 in
+          let same_at = one_index a log.services g.0 f.0 g.1 f.1 own f.2 in
+          elim g.5 [
+            | inl first ↦ f.3 g.2 (rw (same.1, ← is) first.0)
+            | inr anew ↦ f.4 g.2 (rw (same.1, ← is, ← same_at) anew.0)
           ]
     ]
 refused_not _ _ _ _ _ _ kept none bars same g = absurd same
@@ -160,17 +121,16 @@ service_not log k text (begin n a c) new kept none empty bars p is g =
 service_not log k text (end a w) new kept none empty bars p is g =
     empty_get log.services g.0 g.2 empty g.6
 service_not log k text (crash a) new kept none empty bars p is g =
-    subst (λ (state : Option CallerState). Crashes log.services k state new.services)
-    (kept.none empty a) g.1
+    rw (kept.none empty a) at g.1
 service_not log k text (given n s) new kept none empty bars p is g =
     empty_get log.services g.0 g.1 empty g.4.there
 
 pub bad_not : (log : Log) (k : ℕ) (text : List ℕ) (e : Expected) → IsKept log
     → IsBadLine log text e → HasNoNext log k text
 bad_not log k text e kept bad l new p is g =
-    elim bad as (λ _. ⊥) [
+    elim bad [
       | inl b ↦ below_not log k text l new b.0 b.1 is g
-      | inr b ↦ elim b.1 as (λ _. ⊥) [
+      | inr b ↦ elim b.1 [
         | inl c ↦ service_not log k text l new kept b.0 c.0 c.2 p is g
         | inr (inl c) ↦ c.2 l p is
         | inr (inr c) ↦
@@ -186,7 +146,7 @@ pub bad_line : (old new : Log) (k : ℕ) (text : List ℕ) (e : Expected)
 bad_line old new k text e note bars t kept = (
   note,
   bad_not old k text e kept t.0,
-  elim t.0 as (λ _. IsBadText old text e) [
+  elim t.0 [
     | inl b ↦ inr (inl (bars, b.0, b.1, b.2))
     | inr b ↦ inr (inr (bars, b.0, b.1))
   ],
@@ -199,11 +159,6 @@ pub bad_return : (old new : Log) (k : ℕ) (text : List ℕ) (e : Expected)
 bad_return old new k text e note ends t kept =
     (note, bad_not old k text e kept t.0, inl (ends, refl), t.1)
 
--- a list without elements
-pub nil_of : {X : Type 0} (xs : List X) → length xs ≡ 0 → xs ≡ []
-nil_of [] e = refl
-nil_of (x ∷ xs) e = absurd (omega arith)
-
 cases_empty : {X : Type 0} (xs : List X) → (xs ≡ []) ⊎ (xs ≢ [])
 cases_empty [] = inl refl
 cases_empty (x ∷ xs) = inr (λ e. absurd (cc))
@@ -211,8 +166,7 @@ cases_empty (x ∷ xs) = inr (λ e. absurd (cc))
 first_new : (log : Log) (l : Line) (e : Expected) → log.services ≡ [] → is_service l ≡ true
     → ¬ (IsRefused log l e)
 first_new log (service line) e empty is bars =
-    bars.1 (subst (IsNew line.number) (sym empty)
-    (All-nil (λ (s : Service). s.line.number ≢ line.number)))
+    bars.1 (rw empty (All-nil (λ (s : Service). s.line.number ≢ line.number)))
 first_new log _ e empty is bars = absurd (cc)
 
 -- a line of a log, where it is that of a service or one is above
@@ -221,7 +175,7 @@ pub taken : (old new : Log) (k : ℕ) (text : List ℕ) (l : Line) (found : Opti
     → Does old k l found new → TakesNext old k text found new
 taken old new k text l None p is first does = (l, p, sym is, does)
 taken old new k text l (Some e) p is first does = (
-  elim (cases_empty old.services) as (λ _. IsWrong old text e) [
+  elim (cases_empty old.services) [
     | inl empty ↦ absurd (first_new old l e empty (first empty) does.0)
     | inr some ↦ inr (inr (some, (l, p, sym is, does.0)))
   ],
@@ -249,23 +203,15 @@ pub wrong_none : (old : Log) (text : List ℕ) → old.services ≡ []
 wrong_none old text empty bars = inl (empty, refl, λ line p is. bars (service line) p is)
 
 -- the same, where memory may have been refused
-pub ok_is : {E : Type 0} (result : Result (Option Expected) E) (old new : Log) (l m : Line) (k : ℕ)
-    → l ≡ m → IfOk result (λ found. Does old k m found new)
+pub ok_at : {E : Type 0} (result : Result (Option Expected) E) (old new : Log) (l : Line) (k : ℕ)
+    → IfOk result (λ found. (j : ℕ) → Does old j l found new)
     → IfOk result (λ found. Does old k l found new)
-ok_is (Ok found) old new l m k is h =
-    subst (λ (x : Line). Does old k x found new) (sym is) h
-ok_is (Err e) old new l m k is h = h
-
-pub ok_at : {E : Type 0} (result : Result (Option Expected) E) (old new : Log) (l m : Line) (k : ℕ)
-    → l ≡ m → IfOk result (λ found. (j : ℕ) → Does old j m found new)
-    → IfOk result (λ found. Does old k l found new)
-ok_at (Ok found) old new l m k is h =
-    subst (λ (x : Line). Does old k x found new) (sym is) (h k)
-ok_at (Err e) old new l m k is h = h
+ok_at (Ok found) old new l k h = h k
+ok_at (Err e) old new l k h = h
 
 pub ok_next : {E : Type 0} (result : Result (Option Expected) E) (old new : Log) (k : ℕ)
     (text : List ℕ) (w : Option (ℕ × NamedCommand)) → w ≡ None → old.waits ≡ None
     → IfOk result (λ found. TakesNext (record old { waits = w }) k text found new)
     → IfOk result (λ found. TakesLine old k text found new)
-ok_next (Ok found) old new k text w none is h = next_line old new k text found w none is h
-ok_next (Err e) old new k text w none is h = h
+ok_next result old new k text w none is h =
+    IfOk-weaker result _ _ (λ found. next_line old new k text found w none is) h

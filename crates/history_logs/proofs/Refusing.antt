@@ -1,24 +1,7 @@
 -- What is reported of a reply that is refused.
-use Rattle.std.proofs.Common.{◌≡◌, ◌⊎◌, inl, inr, ℕ, ◌<◌, List, Some, length, get_or, slice_get, take, drop, sym, ◌∙◌, ap, subst, arith, length-append}
-use Rattle.std.specs.List.{AllZip}
-use Rattle.std.proofs.lemmas.List.{length-take-le, take-append-drop}
-use Rattle.std.proofs.lemmas.Option.{get_or_from_slice_get, slice_get_within}
-use Rattle.histories.specs.declared.event.Event.{Event}
-use Rattle.histories.specs.declared.event.Event.TheVariants.{Begin, Crash, End}
-use Rattle.histories.specs.Histories.{StandsAt, begins}
-use Rattle.histories.proofs.Cutting.{begins-append}
+use Rattle.history_logs.proofs.Words.{AllZip, Answers, AreNeededLines, Begin, Crash, End, Event, HasEventLines, IsCommandOf, IsLine, IsLineAt, IsOrderly, IsRefusedIn, IsReported, IsStop, IsWindowOf, Judged, Line, List, Refusal, Service, Some, StandsAt, StepOf, Watched, Window, ap, arith, begins, begins-append, drop, get_or, get_or_from_slice_get, inl, inr, length, length-append, length-take-le, line_text, news, slice_get, slice_get_within, sym, take, take-append-drop, ℕ, ◌<◌, ◌∙◌, ◌≡◌, ◌⊎◌}
 use Rattle.histories.specs.declared.window.Stop.TheVariants as stop
-use Rattle.histories.specs.declared.window.Window.{Window}
-use Rattle.histories.specs.Windows.{IsStop, IsWindowOf}
-use Rattle.log_lines.specs.Lines.{IsLine, Line, line_text}
-use Rattle.service_conformance.specs.Judged.{Judged}
-use Rattle.service_conformance.specs.Looks.{Watched}
-use Rattle.history_logs.specs.declared.logs.verdict.Refusal.{Refusal}
-use Rattle.history_logs.specs.Good.{IsOrderly}
-use Rattle.history_logs.specs.EventLines.{Answers, HasCommand, HasEventLines, IsCommandOf, IsLineAt}
-use Rattle.history_logs.specs.Judging.{AreBelow, IsRefusedIn}
-use Rattle.history_logs.specs.Logs.{AreNeededLines, IsReported, StepOf, news}
-use Rattle.history_logs.specs.Seen.{Service}
+use Rattle.history_logs.specs.Judging.{AreBelow}
 use Rattle.history_logs.proofs.Starts.{says_of}
 
 module _ (s : Service) (o : IsOrderly s) where
@@ -74,9 +57,8 @@ module _ (s : Service) (o : IsOrderly s) where
         refused_in begin begun reported own said found stops opened needed tells =
             let a = lines.answers index call line ended at in
             let b = says_of bytes s index call line a.0 o stops ended a.1 a.2 in
-            let has : HasCommand bytes begin =
-            subst (HasCommand bytes) (get_or_from_slice_get s.begins call begin 0 begun)
-            (lines.begun call 0 begun_within) in
+            let has = rw (get_or_from_slice_get s.begins call begin 0 begun)
+            at (lines.begun call 0 begun_within) in
             let its = found has.0 has.1 has.2 in
             record {
               index = index;
@@ -89,8 +71,7 @@ module _ (s : Service) (o : IsOrderly s) where
               words = b.1 ∙ ap Some (sym (said b.2.0 b.0 b.2.1 b.2.2 b.2.3));
               begin = begin;
               begun = begun;
-              command = subst (λ k. IsCommandOf bytes begin k reported.command.items) (sym its.0)
-                  (subst (IsCommandOf bytes begin has.0) (sym its.1) has.2);
+              command = rw (its.0, its.1) has.2;
               window = w;
               is_window = is;
               begins = opened;
@@ -106,7 +87,7 @@ no_other es events index d same ended other =
     let is : get_or es index d ≡ End ended.0 =
     ap (λ (l : List Event). get_or l index d) same
     ∙ get_or_from_slice_get events index (End ended.0) d ended.1 in
-    elim other as (λ _. ⊥) [
+    elim other [
       | inl b ↦ let other_event = sym b.1 ∙ is in absurd (cc)
       | inr b ↦ let other_event = sym b.1 ∙ is in absurd (cc)
     ]

@@ -1,8 +1,5 @@
 -- Texts that are appended in parts.
-use Rattle.std.proofs.Common.{◌≡◌, ℕ, ◌+◌, ◌<◌, List, [], ◌∷◌, ◌++◌, get_or, length, take, ap, sym, ◌∙◌, append_assoc}
-use Rattle.std.specs.List.{flat_map}
-use Rattle.std.proofs.lemmas.Grind.{flat_map-append}
-use Rattle.std.proofs.lemmas.List.{append-nil, take_more}
+use Rattle.history_logs.proofs.Words.{List, [], ap, append-nil, append_assoc, flat_map, flat_map-append, get_or, length, sym, take, take_more, ℕ, ◌++◌, ◌+◌, ◌<◌, ◌∙◌, ◌∷◌, ◌≡◌}
 
 pub two_parts : (old a b p q : List ℕ) → a ≡ old ++ p → b ≡ a ++ q → b ≡ old ++ (p ++ q)
 two_parts old a b p q e f =

@@ -1,26 +1,11 @@
 -- What is kept of a service after one line more.
-use Rattle.std.proofs.Common.{◌≡◌, ℕ, ◌+◌, ◌≤◌, [], ◌∷◌, Option, Some, None, length, refl, sym, ◌∙◌, ap, subst, arith, inl, inr}
-use Rattle.std.proofs.lemmas.List.{length-append}
-use Rattle.std.proofs.lemmas.Option.{same_Some}
-use Rattle.histories.specs.declared.event.Event.TheVariants.{End}
-use Rattle.histories.specs.declared.front.Front.{Front}
+use Rattle.history_logs.proofs.Words.{Begins, Begun, End, Front, Gives, HasFront, IsShort, NamedCommand, None, Option, Part, Service, ServiceLine, Some, StartsAs, State, Watched, [], ap, arith, begun, begun_none, called, inl, inr, length, length-append, nil_from_length, numbered, refl, same_Some, started, starting, stopped, stopping, subst, sym, unseen, weak, with_begin, with_look, with_over, with_part, ℕ, ◌+◌, ◌∙◌, ◌∷◌, ◌≡◌, ◌≤◌}
 use Rattle.iox2_dynamic.specs.Service as dynamic
-use Rattle.log_lines.specs.Commands.{Begun, NamedCommand}
-use Rattle.log_lines.specs.Commands.Begun.{command as begun_command, weak}
-use Rattle.log_lines.specs.Commands.NamedCommand.{numbered}
-use Rattle.log_lines.specs.States.{State}
-use Rattle.service_conformance.specs.declared.conformance.possible.Part.{Part}
-use Rattle.service_conformance.specs.Judged.{Judged, stopped}
-use Rattle.service_conformance.specs.Looks.{Watched}
+use Rattle.log_lines.specs.Commands.Begun.{command as begun_command}
 use Rattle.service_conformance.specs.Sides.{HasPart, LacksPart}
-use Rattle.service_descriptions.specs.declared.replay.lines.service_line.ServiceLine.{ServiceLine}
 use Rattle.service_descriptions.specs.declared.replay.machine.command.Command.TheVariants as command
-use Rattle.history_logs.specs.Reading.{Gives, StartsAs}
-use Rattle.history_logs.specs.Seen.{Begins, Service, called, started, starting, stopping, unseen, with_begin, with_look, with_over, with_part}
-use Rattle.history_logs.specs.Shortened.{HasFront, IsShort}
 use Rattle.history_logs.proofs.Alone.{called_stops}
-use Rattle.history_logs.proofs.Refused.{nil_of}
-use Rattle.history_logs.proofs.Shortened.{called_same, short_begin, short_count, short_over, short_part}
+use Rattle.history_logs.proofs.Shortened.{called_same, short_begin, short_over, short_part}
 
 -- a service that is kept so
 module _ (s live : Service) (front : Option (Front Watched)) (h : IsShort s live front) where
@@ -29,50 +14,43 @@ module _ (s live : Service) (front : Option (Front Watched)) (h : IsShort s live
   short_look p line =
       let n = length s.calls in
       let one = with_begin s (starting p) line in
-      let first = short_begin s live front h (starting p) line refl in
       let other = with_begin live (starting p) line in
-      let long : length one.calls ≡ n + 1 = length-append s.calls ((starting p) ∷ []) in
+      let first = short_begin s live front h (starting p) line refl in
       let second = short_over one other front first (End n) line in
       let next : (start : ℕ) → stopped (stopping n) ≡ Some start
-      → start + 1 ≡ length one.calls =
-      λ start is. omega (arith, same_Some n start is, long) in
-      let late : (start : ℕ) → stopped (stopping n) ≡ Some start → h.upto ≤ start =
-      λ start is. omega (arith, same_Some n start is, h.within) in
+      → (start + 1 ≡ length one.calls) × (begun h.past ≤ start) =
+      λ start is. (
+        omega (arith, same_Some n start is, length-append s.calls ((starting p) ∷ [])),
+        omega (arith, same_Some n start is, h.within),
+      ) in
       subst (λ m. IsShort (with_look s p line)
-      (with_part (with_over other m line) (stopping m) line) front)
-      (sym (short_count s live front h))
+      (with_part (with_over other m line) (stopping m) line) front) (sym h.count)
       (short_part (with_over one n line) (with_over other n line) front second (stopping n) line
-      next late)
+      next)
 
   pub same_call : (c : NamedCommand) → called live c ≡ called s c
-  same_call c = ap (λ (x : Service). called x c) h.is ∙ called_same s h.kept c
+  same_call c = ap (λ (x : Service). called x c) h.is ∙ called_same s live c
 
   -- the call of a command
   short_call : (c : NamedCommand) (line : ℕ) (t : Service)
       → t ≡ with_begin live (called live c) line → IsShort (with_begin s (called s c) line) t front
   short_call c line t is =
-      subst (λ (x : Service). IsShort (with_begin s (called s c) line) x front)
-      (sym (is ∙ ap (λ (x : Judged). with_begin live x line) (same_call c)))
-      (short_begin s live front h (called s c) line (called_stops s c))
+      rw (is, same_call c) (short_begin s live front h (called s c) line (called_stops s c))
 
   pub short_begins : (b : Begun) (line : ℕ) (t : Service) (current : ℕ)
       → Begins live b line t current
       → (new : Service) × Begins s b line new current × IsShort new t front
-  short_begins (begun_command c) line t current is = (
-    with_begin s (called s c) line,
-    (refl, is.1 ∙ short_count s live front h),
-    short_call c line t is.0,
-  )
+  short_begins (begun_command c) line t current is =
+      (with_begin s (called s c) line, (refl, is.1 ∙ h.count), short_call c line t is.0)
   short_begins (weak r) line t current (inl looks) = (
     with_look s looks.0 line,
     inl (
       looks.0,
       subst (λ (x : Service). HasPart x.start.pattern r looks.0) h.is looks.1,
       refl,
-      looks.3 ∙ ap (λ n. n + 1) (short_count s live front h),
+      looks.3 ∙ ap (λ n. n + 1) h.count,
     ),
-    subst (λ (x : Service). IsShort (with_look s looks.0 line) x front) (sym looks.2)
-        (short_look looks.0 line),
+    rw looks.2 (short_look looks.0 line),
   )
   short_begins (weak r) line t current (inr lists) =
       let c = numbered (command.List r) in (
@@ -80,7 +58,7 @@ module _ (s live : Service) (front : Option (Front Watched)) (h : IsShort s live
         inr (
           subst (λ (x : Service). LacksPart x.start.pattern r) h.is lists.0,
           refl,
-          lists.2 ∙ short_count s live front h,
+          lists.2 ∙ h.count,
         ),
         short_call c line t lists.1,
       )
@@ -88,27 +66,28 @@ module _ (s live : Service) (front : Option (Front Watched)) (h : IsShort s live
   pub short_started : (what : State) (start : dynamic.Service) → StartsAs live what start
       → StartsAs s what start × IsShort (started s start) (started live start) front
   short_started what start is =
-      let none : length s.calls ≡ 0 = sym (short_count s live front h) ∙ ap length is.0 in (
+      let none : length s.calls ≡ 0 = sym h.count ∙ ap length is.0 in (
         (
-          nil_of s.calls none,
+          nil_from_length s.calls none,
           subst (λ (x : Service). Gives x.start what start) h.is is.1,
         ),
         record {
-          kept = h.kept;
-          upto = h.upto;
-          within = h.within;
           is = ap (λ (x : Service). started x start) h.is;
-          keeps = record {
-            count = h.keeps.count;
-            calls = h.keeps.calls;
-            stops = h.keeps.stops;
-            has = start_front front h.keeps.has none;
-          };
+          count = h.count;
+          calls = h.calls;
+          stops = h.stops;
+          past = h.past;
+          events = h.events;
+          within = h.within;
+          over = h.over;
+          shows = h.shows;
+          first = h.first;
+          has = start_front front h.has none;
         },
       )
     where
-      start_front : (f : Option (Front Watched)) → HasFront s h.kept h.upto f
-          → length s.calls ≡ 0 → HasFront (started s start) h.kept h.upto f
+      start_front : (f : Option (Front Watched)) → HasFront s live h.past f
+          → length s.calls ≡ 0 → HasFront (started s start) (started live start) h.past f
       start_front None is none = is
       start_front (Some f) is none = absurd (omega (arith, is.some, none))
 
@@ -116,16 +95,17 @@ module _ (s live : Service) (front : Option (Front Watched)) (h : IsShort s live
 pub short_new : (line : ServiceLine) (start : dynamic.Service)
     → IsShort (started (unseen line) start) (started (unseen line) start) None
 short_new line start = record {
-  kept = record { first = 0; calls = []; begins = []; events = []; event_lines = [] };
-  upto = 0;
-  within = omega arith;
   is = refl;
-  keeps = record {
-    count = refl;
-    calls = λ n h. refl;
-    stops = λ n start is. absurd (cc);
-    has = (refl, refl);
-  };
+  count = refl;
+  calls = λ n h. refl;
+  stops = λ n start is. absurd (cc);
+  past = [];
+  events = refl;
+  within = omega (arith, begun_none);
+  over = λ n h. absurd (omega (arith, begun_none));
+  shows = λ n from is h. absurd (omega (arith, begun_none));
+  first = omega arith;
+  has = refl;
 }
 
 pub short_unseen : (line : ServiceLine) → IsShort (unseen line) (unseen line) None

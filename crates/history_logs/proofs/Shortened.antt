@@ -1,28 +1,13 @@
 -- What is kept after one line more.
-use Rattle.std.proofs.Common.{◌≡◌, ◌≢◌, ◌⊎◌, ℕ, zero, suc, ◌+◌, ◌<◌, ◌≤◌, List, [], ◌∷◌, ◌++◌, Option, Some, None, append_assoc, length, refl, sym, ◌∙◌, ap, subst, arith, inl, inr, slice_get, take}
-use Rattle.std.specs.Option.{option_map}
-use Rattle.std.proofs.lemmas.Bool.{cases_eq, cases_lt}
-use Rattle.std.proofs.lemmas.List.{length-append, take-append-le}
-use Rattle.histories.specs.declared.event.Event.{Event}
-use Rattle.histories.specs.declared.event.Event.TheVariants.{Begin, End}
-use Rattle.histories.specs.declared.front.Front.{Front}
-use Rattle.histories.specs.Histories.{HasEnded, begun}
+use Rattle.history_logs.proofs.Words.{Begin, End, Event, Front, HasEnded, HasFront, IsShort, Judged, List, NamedCommand, None, Option, SeenReply, Service, Some, Watched, [], ap, append_assoc, arith, begun, called, calls_answered, calls_shown, cases_eq, cases_lt, changed, inl, inr, judged_answered, length, length-append, numbered, option_map, refl, shown, slice_get, start_of, stopped, suc, sym, take, with_begin, with_end, with_part, zero, ℕ, ◌++◌, ◌+◌, ◌∙◌, ◌∷◌, ◌≡◌, ◌≢◌, ◌≤◌, ◌⊎◌}
+use Rattle.std.proofs.lemmas.List.{take-append-le}
 use Rattle.histories.proofs.Events.{ended_still}
-use Rattle.histories.specs.Goings.{IsFrontAfter}
-use Rattle.iox2_container.specs.declared.container.role.Role.{Role}
-use Rattle.iox2_dynamic.specs.Service as dynamic
-use Rattle.log_lines.specs.Commands.{NamedCommand}
-use Rattle.log_lines.specs.Commands.NamedCommand.{numbered}
-use Rattle.service_conformance.specs.declared.conformance.seen_reply.SeenReply.{SeenReply}
-use Rattle.service_conformance.specs.declared.conformance.seen_reply.SeenReply.TheVariants as reply
-use Rattle.service_conformance.specs.Judged.{Judged, WindowStep, judged_answered, shown, stopped}
 use Rattle.service_conformance.specs.Judged.Judged.{call}
-use Rattle.service_conformance.specs.Looks.{Watched, unwatched}
 use Rattle.service_descriptions.specs.declared.replay.machine.command.Command.{Command}
 use Rattle.service_descriptions.specs.declared.replay.machine.command.Command.TheVariants as command
-use Rattle.history_logs.specs.Seen.{Service, added_by, called, calls_answered, calls_shown, changed, given_at, given_in, handle_named, start_of, with_begin, with_end, with_part}
-use Rattle.history_logs.specs.Shortened.{HasFront, IsSettled, IsShort, Kept, shortened}
-use Rattle.history_logs.proofs.Orderly.{length_answered}
+use Rattle.history_logs.specs.Seen.{IsKeptCall, handle_named}
+use Rattle.history_logs.specs.Shortened.{shortened}
+use Rattle.history_logs.proofs.Orderly.{both, length_answered}
 
 -- lists with one more at the end
 pub get_pushed : {X : Type 0} (xs ys : List X) (x : X) (n : ℕ) → length xs ≡ length ys
@@ -42,24 +27,10 @@ start_left [] c zero start is = inr (refl, is)
 start_left [] c (suc n) start is = absurd (cc)
 start_left (x ∷ xs) c zero start is = inl is
 start_left (x ∷ xs) c (suc n) start is =
-    elim (start_left xs c n start is) as (λ _. (start_of (x ∷ xs) (suc n) ≡ Some start)
-    ⊎ ((suc n ≡ length (x ∷ xs)) × (stopped c ≡ Some start))) [
+    elim (start_left xs c n start is) [
       | inl before ↦ inl before
       | inr last ↦ inr (ap suc last.0, last.1)
     ]
-
-pub start_get : (xs ys : List Judged) (n : ℕ) → slice_get xs n ≡ slice_get ys n
-    → start_of xs n ≡ start_of ys n
-start_get xs ys n is = sym (of_get xs n) ∙ (ap of is ∙ of_get ys n)
-  where
-    of : Option Judged → Option ℕ
-    of None = None
-    of (Some c) = stopped c
-
-    of_get : (zs : List Judged) (m : ℕ) → of (slice_get zs m) ≡ start_of zs m
-    of_get [] m = refl
-    of_get (z ∷ zs) zero = refl
-    of_get (z ∷ zs) (suc m) = of_get zs m
 
 -- calls of which one is another
 pub get_changed : (f : Judged → Judged) (xs : List Judged) (n : ℕ)
@@ -80,10 +51,8 @@ changed_same : (f : Judged → Judged) (xs ys : List Judged) (n m : ℕ)
     → slice_get xs m ≡ slice_get ys m
     → slice_get (changed f xs n) m ≡ slice_get (changed f ys n) m
 changed_same f xs ys n m is =
-    elim (cases_eq m n) as (λ _. slice_get (changed f xs n) m ≡ slice_get (changed f ys n) m) [
-      | inl same ↦
-          subst (λ k. slice_get (changed f xs k) m ≡ slice_get (changed f ys k) m) same
-          (get_changed f xs m ∙ (ap (option_map f) is ∙ sym (get_changed f ys m)))
+    elim (cases_eq m n) [
+      | inl same ↦ rw (← same, get_changed f xs m, get_changed f ys m, is) refl
       | inr other ↦ get_unchanged f xs n m other ∙ (is ∙ sym (get_unchanged f ys n m other))
     ]
 
@@ -136,9 +105,7 @@ module _ (r : SeenReply) where
   answered_same xs ys n m own is =
       changed_same (λ c. judged_answered c r) (calls_shown xs (start_of xs n) r)
       (calls_shown ys (start_of ys n) r) n m
-      (subst (λ (o : Option ℕ). slice_get (calls_shown xs o r) m
-      ≡ slice_get (calls_shown ys (start_of ys n) r) m) (sym (start_get xs ys n own))
-      (shown_same xs ys (start_of ys n) m is))
+      (rw own (shown_same xs ys (start_of ys n) m is))
 
   take_shown : (xs : List Judged) (b : ℕ) (start : Option ℕ)
       → ((from : ℕ) → start ≡ Some from → b ≤ from)
@@ -154,256 +121,161 @@ module _ (r : SeenReply) where
       ∙ take_shown xs b (start_of xs n) low
 
 -- what a command is, where something is forgotten
-module _ (s : Service) (kept : Kept) where
-  given_same : (o : Option ℕ) → given_at (shortened s kept) o ≡ given_at s o
-  given_same None = refl
-  given_same (Some number) = refl
-
-  named_same : (c : Command) → handle_named (shortened s kept) c ≡ handle_named s c
-  named_same (command.Deregister n) = given_same (slice_get s.commands n)
-  named_same (command.Release n) = given_same (slice_get s.commands n)
+module _ (s live : Service) where
+  named_same : (c : Command) → handle_named (shortened s live) c ≡ handle_named s c
+  named_same (command.Deregister n) = refl
+  named_same (command.Release n) = refl
   named_same _ = refl
 
-  pub called_same : (c : NamedCommand) → called (shortened s kept) c ≡ called s c
+  pub called_same : (c : NamedCommand) → called (shortened s live) c ≡ called s c
   called_same (numbered c) = rw (named_same c) refl
   called_same _ = refl
 
-  pub gives_same : (adds : Option Role) (r : SeenReply)
-      → given_in (shortened s kept) adds r ≡ given_in s adds r
-  gives_same (Some a) (reply.Handle slot ticket) = refl
-  gives_same _ _ = refl
-
 -- one event more
-abbrev with_event : Kept → Event → ℕ → Kept
-with_event kept e line = record kept {
-  events = kept.events ++ e ∷ [];
-  event_lines = kept.event_lines ++ line ∷ [];
-}
-
 abbrev pub with_one : Service → Event → ℕ → Service
 with_one s e line = record s {
   events = s.events ++ e ∷ [];
   event_lines = s.event_lines ++ line ∷ [];
 }
 
--- where calls change that are not settled, the front stays
-settled_still : (s t : Service) (kept more : Kept) (upto : ℕ) (front : Front Watched) (e : Event)
-    → (k : IsSettled s kept upto front) → t.events ≡ s.events ++ e ∷ []
-    → more.events ≡ kept.events ++ e ∷ [] → more.first ≡ kept.first → t.start ≡ s.start
-    → length s.calls ≤ length t.calls
-    → take (begun k.past) t.calls ≡ take (begun k.past) s.calls
-    → ((n start : ℕ) → start_of t.calls n ≡ Some start → start < begun k.past
-    → start_of s.calls n ≡ Some start)
-    → IsSettled t more upto front
-settled_still s t kept more upto front e k events left first start long same before = record {
-  past = k.past;
-  most = k.most;
-  events = events ∙ (ap (λ (l : List Event). l ++ e ∷ []) k.events
-      ∙ (append_assoc k.past kept.events (e ∷ [])
-      ∙ ap (λ (l : List Event). k.past ++ l) (sym left)));
-  over = λ n h. ended n (k.over n h);
-  shows = λ n from is h. ended n (k.shows n from (before n from is h) h);
-  first = omega arith;
-  slots = λ slot c is. omega (arith, k.slots slot c is);
-  some = omega arith;
-  front_of = λ final is.
-      subst (λ (x : dynamic.Service). IsFrontAfter (WindowStep 0 final) (unwatched x ∷ []) k.past
-      front) (sym start) (k.front_of final (is ∙ same));
-}
-  where
-    ended : (n : ℕ) → HasEnded s.events n → HasEnded t.events n
-    ended n h =
-        subst (λ (l : List Event). HasEnded l n) (sym events) (ended_still s.events e n h)
-
-pub none_stops : (c : Judged) (P : ℕ → Type 0) → stopped c ≡ None → (start : ℕ)
-    → stopped c ≡ Some start → P start
-none_stops c P none start is = absurd (cc)
-
 module _ (s live : Service) (front : Option (Front Watched)) (h : IsShort s live front) where
-  pub short_count : length live.calls ≡ length s.calls
-  short_count = ap (λ (x : Service). length x.calls) h.is ∙ h.keeps.count
+  -- One event more. No call changes that began in the events that are forgotten. If a weak listing
+  -- stops, it began behind them.
+  module _ (t more : Service) (e : Event) (is : more ≡ shortened t more)
+      (events : t.events ≡ s.events ++ e ∷ []) (left : more.events ≡ live.events ++ e ∷ [])
+      (start : t.start ≡ s.start) (first : more.first ≡ live.first)
+      (count : length more.calls ≡ length t.calls) (long : length s.calls ≤ length t.calls)
+      (calls : (n : ℕ) → live.first ≤ n → slice_get more.calls n ≡ slice_get t.calls n)
+      (same : take (begun h.past) t.calls ≡ take (begun h.past) s.calls)
+      (starts : (n from : ℕ) → start_of t.calls n ≡ Some from
+      → (start_of s.calls n ≡ Some from) ⊎ ((from + 1 ≡ n) × (begun h.past ≤ from)))
+    where
+      pub ended : (n : ℕ) → HasEnded s.events n → HasEnded t.events n
+      ended n over = rw events (ended_still s.events e n over)
+
+      pub still : (f : Option (Front Watched)) → HasFront s live h.past f
+          → HasFront t more h.past f
+      still None none = none
+      still (Some f) settled = record {
+        slots = λ slot c has. omega (arith, settled.slots slot c has);
+        some = omega (arith, settled.some);
+        front_of = λ final agrees. rw start (settled.front_of final (agrees ∙ same));
+      }
+
+      abbrev pub short_event : IsShort t more front
+      short_event = record {
+        is = is;
+        count = count;
+        calls = λ n low. calls n (omega arith);
+        stops = λ n from at. elim (starts n from at) [
+          | inl before ↦ h.stops n from before
+          | inr new ↦ new.0
+        ];
+        past = h.past;
+        events = rw (events, left, h.events) (append_assoc h.past live.events (e ∷ []));
+        within = omega (arith, h.within);
+        over = λ n low. ended n (h.over n low);
+        shows = λ n from at low. elim (starts n from at) [
+          | inl before ↦ ended n (h.shows n from before low)
+          | inr new ↦ absurd (omega arith)
+        ];
+        first = omega (arith, h.first);
+        has = still front h.has;
+      }
 
   -- a call begins
   module _ (c : Judged) (line : ℕ)
-      (next : (start : ℕ) → stopped c ≡ Some start → start + 1 ≡ length s.calls)
-      (late : (start : ℕ) → stopped c ≡ Some start → h.upto ≤ start)
+      (next : (start : ℕ) → stopped c ≡ Some start
+      → (start + 1 ≡ length s.calls) × (begun h.past ≤ start))
     where
-      abbrev part : Kept
-      part = record {
-        first = h.kept.first;
-        calls = h.kept.calls ++ c ∷ [];
-        begins = h.kept.begins ++ line ∷ [];
-        events = h.kept.events ++ Begin (length h.kept.calls) ∷ [];
-        event_lines = h.kept.event_lines ++ line ∷ [];
-      }
+      pub events : s.events ++ Begin (length s.calls) ∷ []
+          ≡ s.events ++ Begin (length live.calls) ∷ []
+      events = ap (λ n. s.events ++ Begin n ∷ []) (sym h.count)
 
-      pub part_front : (f : Option (Front Watched)) → HasFront s h.kept h.upto f
-          → HasFront (with_part s c line) part h.upto f
-      part_front None is = (
-        is.0,
-        ap (λ n. h.kept.events ++ Begin n ∷ []) h.keeps.count
-            ∙ ap (λ (l : List Event). l ++ Begin (length s.calls) ∷ []) is.1,
-      )
-      part_front (Some f) is =
-          settled_still s (with_part s c line) h.kept part h.upto f (Begin (length h.kept.calls)) is
-          (ap (λ n. s.events ++ Begin n ∷ []) (sym h.keeps.count)) refl refl refl
-          (omega (arith, length-append s.calls (c ∷ [])))
-          (take-append-le (begun is.past) s.calls (c ∷ []) (omega (arith, is.most, h.within)))
-          (λ n start at below.
-          elim (start_left s.calls c n start at) as (λ _. start_of s.calls n ≡ Some start) [
-            | inl before ↦ before
-            | inr last ↦ absurd (omega (arith, late start last.1, is.most))
-          ])
+      pub longer : length s.calls ≤ length (s.calls ++ c ∷ [])
+      longer = omega (arith, length-append s.calls (c ∷ []))
+
+      pub calls : (n : ℕ) → live.first ≤ n
+          → slice_get (live.calls ++ c ∷ []) n ≡ slice_get (s.calls ++ c ∷ []) n
+      calls n low = get_pushed live.calls s.calls c n h.count (h.calls n low)
+
+      pub settled : take (begun h.past) (s.calls ++ c ∷ []) ≡ take (begun h.past) s.calls
+      settled = take-append-le (begun h.past) s.calls (c ∷ []) h.within
+
+      pub starts : (n start : ℕ) → start_of (s.calls ++ c ∷ []) n ≡ Some start
+          → (start_of s.calls n ≡ Some start) ⊎ ((start + 1 ≡ n) × (begun h.past ≤ start))
+      starts n start at =
+          elim (start_left s.calls c n start at) [
+            | inl before ↦ inl before
+            | inr last ↦ let from = next start last.1 in inr (from.0 ∙ sym last.0, from.1)
+          ]
 
       abbrev pub short_part : IsShort (with_part s c line) (with_part live c line) front
-      short_part = record {
-        kept = part;
-        upto = h.upto;
-        within = omega (arith, h.within, length-append s.calls (c ∷ []));
-        is = ap (λ (x : Service). with_part x c line) h.is;
-        keeps = record {
-          count = omega (
-            arith,
-            h.keeps.count,
-            length-append h.kept.calls (c ∷ []),
-            length-append s.calls (c ∷ []),
-          );
-          calls = λ n low.
-              get_pushed h.kept.calls s.calls c n h.keeps.count (h.keeps.calls n low);
-          stops = λ n start at.
-              elim (start_left s.calls c n start at) as (λ _. start + 1 ≡ n) [
-                | inl before ↦ h.keeps.stops n start before
-                | inr last ↦ next start last.1 ∙ sym last.0
-              ];
-          has = part_front front h.keeps.has;
-        };
-      }
+      short_part =
+          short_event (with_part s c line) (with_part live c line) (Begin (length live.calls))
+          (ap (λ (x : Service). with_part x c line) h.is) events refl refl refl
+          (both live.calls s.calls c c h.count) longer calls settled starts
 
-  pub begin_front : (c : Judged) (line : ℕ) (kept : Kept) (upto : ℕ) (f : Option (Front Watched))
-      → HasFront (with_part s c line) kept upto f → HasFront (with_begin s c line) kept upto f
-  begin_front c line kept upto None is = is
-  begin_front c line kept upto (Some f) is = record {
-    past = is.past;
-    most = is.most;
-    events = is.events;
-    over = is.over;
-    shows = is.shows;
-    first = is.first;
-    slots = is.slots;
-    some = is.some;
-    front_of = is.front_of;
-  }
+      abbrev pub short_command : IsShort (with_begin s c line) (with_begin live c line) front
+      short_command =
+          short_event (with_begin s c line) (with_begin live c line) (Begin (length live.calls))
+          (ap (λ (x : Service). with_begin x c line) h.is ∙ rw h.count refl) events refl refl refl
+          (both live.calls s.calls c c h.count) longer calls settled starts
+
+  -- a call that is no weak listing that stops
+  pub no_stop : (c : Judged) → stopped c ≡ None → (start : ℕ) → stopped c ≡ Some start
+      → (start + 1 ≡ length s.calls) × (begun h.past ≤ start)
+  no_stop c none start is = absurd (cc)
 
   abbrev pub short_begin : (c : Judged) (line : ℕ) → stopped c ≡ None
       → IsShort (with_begin s c line) (with_begin live c line) front
-  short_begin c line none =
-      let p = short_part c line (none_stops c (λ start. start + 1 ≡ length s.calls) none)
-      (none_stops c (λ start. h.upto ≤ start) none) in
-      record {
-        kept = p.kept;
-        upto = h.upto;
-        within = p.within;
-        is = ap (λ (x : Service). with_begin x c line) h.is ∙ rw h.keeps.count refl;
-        keeps = record {
-          count = p.keeps.count;
-          calls = p.keeps.calls;
-          stops = p.keeps.stops;
-          has = begin_front c line p.kept h.upto front p.keeps.has;
-        };
-      }
-
-  pub over_front : (e : Event) (line : ℕ) (f : Option (Front Watched)) → HasFront s h.kept h.upto f
-      → HasFront (with_one s e line) (with_event h.kept e line) h.upto f
-  over_front e line None is = (is.0, ap (λ (l : List Event). l ++ e ∷ []) is.1)
-  over_front e line (Some f) is =
-      settled_still s (with_one s e line) h.kept (with_event h.kept e line) h.upto f e is refl refl
-      refl refl (omega arith) refl (λ n from at below. at)
+  short_begin c line none = short_command c line (no_stop c none)
 
   -- a call ends, or its caller crashes, and its reply is not seen
   abbrev pub short_over : (e : Event) (line : ℕ)
       → IsShort (with_one s e line) (with_one live e line) front
-  short_over e line = record {
-    kept = with_event h.kept e line;
-    upto = h.upto;
-    within = h.within;
-    is = ap (λ (x : Service). with_one x e line) h.is;
-    keeps = record {
-      count = h.keeps.count;
-      calls = h.keeps.calls;
-      stops = h.keeps.stops;
-      has = over_front e line front h.keeps.has;
-    };
-  }
+  short_over e line =
+      short_event (with_one s e line) (with_one live e line) e
+      (ap (λ (x : Service). with_one x e line) h.is) refl refl refl refl h.count (omega arith)
+      h.calls refl (λ n from at. inl at)
 
   -- an open call is answered
   module _ (number : ℕ) (now : ¬ (HasEnded s.events number)) where
-    late : (f : Front Watched) (is : IsSettled s h.kept h.upto f) → begun is.past ≤ number
-    late f is =
-        elim (cases_lt number (begun is.past)) as (λ _. begun is.past ≤ number) [
-          | inl before ↦ absurd (now (is.over number before))
+    late : begun h.past ≤ number
+    late =
+        elim (cases_lt number (begun h.past)) [
+          | inl before ↦ absurd (now (h.over number before))
           | inr after ↦ after
         ]
 
-    late_start : (f : Front Watched) (is : IsSettled s h.kept h.upto f) (from : ℕ)
-        → start_of s.calls number ≡ Some from → begun is.past ≤ from
-    late_start f is from at =
-        elim (cases_lt from (begun is.past)) as (λ _. begun is.past ≤ from) [
-          | inl before ↦ absurd (now (is.shows number from at before))
+    late_start : (from : ℕ) → start_of s.calls number ≡ Some from → begun h.past ≤ from
+    late_start from at =
+        elim (cases_lt from (begun h.past)) [
+          | inl before ↦ absurd (now (h.shows number from at before))
           | inr after ↦ after
         ]
 
-    low : (f : Option (Front Watched)) → HasFront s h.kept h.upto f → h.kept.first ≤ number
-    low None is = omega (arith, is.0)
-    low (Some f) is = omega (arith, is.first, late f is)
-
-    low_start : (f : Option (Front Watched)) → HasFront s h.kept h.upto f → (from : ℕ)
-        → start_of s.calls number ≡ Some from → h.kept.first ≤ from
-    low_start None is from at = omega (arith, is.0)
-    low_start (Some f) is from at = omega (arith, is.first, late_start f is from at)
+    low : live.first ≤ number
+    low = omega (arith, h.first, late)
 
     -- the call is kept, and the weak listing that it stops
-    pub kept_call : h.kept.first ≤ number
-    kept_call = low front h.keeps.has
+    pub kept_call : IsKeptCall live number
+    kept_call = record {
+      call = low;
+      start = λ from is.
+          omega (arith, h.first, late_start from (rw (h.calls number low) at is));
+    }
 
-    pub kept_start : (from : ℕ) → start_of h.kept.calls number ≡ Some from → h.kept.first ≤ from
-    kept_start from at =
-        low_start front h.keeps.has from
-        (sym (start_get h.kept.calls s.calls number (h.keeps.calls number kept_call)) ∙ at)
-
-    module _ (r : SeenReply) (line : ℕ) where
-      abbrev ended : Kept
-      ended = record h.kept {
-        calls = calls_answered h.kept.calls number r;
-        events = h.kept.events ++ End number ∷ [];
-        event_lines = h.kept.event_lines ++ line ∷ [];
-      }
-
-      end_front : (f : Option (Front Watched)) → HasFront s h.kept h.upto f
-          → HasFront (with_end s number r line) ended h.upto f
-      end_front None is = (is.0, ap (λ (l : List Event). l ++ End number ∷ []) is.1)
-      end_front (Some f) is =
-          settled_still s (with_end s number r line) h.kept ended h.upto f (End number) is refl refl
-          refl refl (omega (arith, length_answered s.calls number r))
-          (take_answered r s.calls (begun is.past) number (late f is) (late_start f is))
-          (λ n from at below. sym (start_answered r s.calls number n) ∙ at)
-
-      pub short_end : IsShort (with_end s number r line) (with_end live number r line) front
-      short_end = record {
-        kept = ended;
-        upto = h.upto;
-        within = omega (arith, h.within, length_answered s.calls number r);
-        is = ap (λ (x : Service). with_end x number r line) h.is
-            ∙ rw (
-              h.keeps.calls number kept_call,
-              gives_same s h.kept (added_by (slice_get s.calls number)) r,
-            ) refl;
-        keeps = record {
-          count = length_answered h.kept.calls number r
-              ∙ (h.keeps.count ∙ sym (length_answered s.calls number r));
-          calls = λ n from.
-              answered_same r h.kept.calls s.calls number n (h.keeps.calls number kept_call)
-              (h.keeps.calls n from);
-          stops = λ n from is. h.keeps.stops n from (sym (start_answered r s.calls number n) ∙ is);
-          has = end_front front h.keeps.has;
-        };
-      }
+    pub short_end : (r : SeenReply) (line : ℕ)
+        → IsShort (with_end s number r line) (with_end live number r line) front
+    short_end r line =
+        short_event (with_end s number r line) (with_end live number r line) (End number)
+        (ap (λ (x : Service). with_end x number r line) h.is ∙ rw (h.calls number low) refl) refl
+        refl refl refl
+        (length_answered live.calls number r
+        ∙ (h.count ∙ sym (length_answered s.calls number r)))
+        (omega (arith, length_answered s.calls number r))
+        (λ n from.
+        answered_same r live.calls s.calls number n (h.calls number low) (h.calls n from))
+        (take_answered r s.calls (begun h.past) number late late_start)
+        (λ n from at. inl (sym (start_answered r s.calls number n) ∙ at))

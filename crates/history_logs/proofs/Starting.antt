@@ -1,21 +1,10 @@
 -- What is given of services that were in use.
-use Rattle.std.proofs.Common.{◌≡◌, ◌≢◌, ◌<◌, ℕ, Bool, true, false, List, [], ◌∷◌, ◌++◌, IfOk, Option, Some, None, Result, Ok, Err, get_or, length, refl, sym, ◌∙◌, ap, subst, arith, inl, inr}
-use Rattle.std.specs.Prelude.{◌↔◌, IsTrue, slice_get}
-use Rattle.std.specs.List.{slice_set}
-use Rattle.std.proofs.lemmas.Bool.{cases_lt}
-use Rattle.std.proofs.lemmas.List.{get_or_default}
-use Rattle.std.proofs.lemmas.Option.{same_Some, slice_get_read, slice_get_within}
+use Rattle.history_logs.proofs.Words.{Bool, Does, Err, Expected, Gives, IfOk, IsNamed, IsTrue, List, Log, None, NoneCalls, Ok, Option, Result, Service, Some, Starts, State, [], ap, arith, cases_lt, false, get_or, get_or_default, given, inl, inr, length, nil_from_length, refl, same_Some, slice_get, slice_get_read, slice_get_within, slice_set, started, sym, true, unseen, ℕ, ◌++◌, ◌<◌, ◌↔◌, ◌∙◌, ◌∷◌, ◌≡◌, ◌≢◌}
 use Rattle.iox2_dynamic.specs.Service as dynamic
-use Rattle.log_lines.specs.Lines.Line.{given}
-use Rattle.log_lines.specs.States.{State}
 use Rattle.service_conformance.specs.Given.{Becomes}
-use Rattle.history_logs.specs.declared.logs.verdict.Expected.{Expected}
 use Rattle.history_logs.specs.declared.logs.verdict.Expected.TheVariants as expected
-use Rattle.history_logs.specs.Good.{GivesAnew, Starts}
-use Rattle.history_logs.specs.Reading.{Does, Gives, IsNamed, Log, NoneCalls}
-use Rattle.history_logs.specs.Seen.{Service, started, unseen}
+use Rattle.history_logs.specs.Good.{GivesAnew}
 use Rattle.history_logs.proofs.Named.{set_back}
-use Rattle.history_logs.proofs.Refused.{nil_of}
 
 -- what becomes of the start becomes of the service
 pub starts_of : (old : Service) (what : State) (start : dynamic.Service) (yes : Bool)
@@ -38,31 +27,12 @@ pub gives_on : (old new : Log) (k : ℕ) (number : Option ℕ) (what : State) (a
     → new ≡ record old { services = slice_set old.services at t }
     → Does old k (given number what) (expected_if yes) new
 gives_on old new k number what at s d t true few none named there st is =
-    let same : s ≡ d = same_Some s d (sym named.there ∙ there) in (
-      at,
-      d,
-      st.0,
-      none,
-      subst (IsNamed number old.services at) same named,
-      inl (
-        st.1,
-        is ∙ ap (λ (x : Service). record old { services = slice_set old.services at x }) st.2,
-      ),
-    )
+    let own = rw (same_Some s d (sym named.there ∙ there)) at named in
+    (at, d, st.0, none, own, inl (st.1, rw (is, st.2) refl))
 gives_on old new k number what at s d t false few none named there st is =
-    let same : s ≡ d = same_Some s d (sym named.there ∙ there) in (
-      inr (
-        refl,
-        (
-          at,
-          d,
-          subst (IsNamed number old.services at) same named,
-          st.0,
-          λ start anew. anew.0 few,
-        ),
-      ),
-      ap (λ (x : Log). x.services) is
-          ∙ (ap (slice_set old.services at) st.1 ∙ set_back old.services at d there),
+    let own = rw (same_Some s d (sym named.there ∙ there)) at named in (
+      inr (refl, (at, d, own, st.0, λ start anew. anew.0 few)),
+      rw (is, st.1) (set_back old.services at d there),
     )
 
 -- what stands at an index is one service
@@ -74,9 +44,9 @@ same_item ss at s d h one other = one ∙ (get_or_default ss at s d h ∙ sym ot
 pub no_calls : (s : Service) (may : Bool) → (IsTrue may ↔ (0 < length s.calls)) → may ≡ false
     → s.calls ≡ []
 no_calls s may says not =
-    elim (cases_lt 0 (length s.calls)) as (λ _. s.calls ≡ []) [
+    elim (cases_lt 0 (length s.calls)) [
       | inl some ↦ let is = says.1 some in absurd (cc)
-      | inr none ↦ nil_of s.calls (omega arith)
+      | inr none ↦ nil_from_length s.calls (omega arith)
     ]
 
 pub some_calls : (s : Service) → 0 < length s.calls → s.calls ≢ []
@@ -92,8 +62,7 @@ pub gives_first : (old new : Log) (k : ℕ) (number : Option ℕ) (what : State)
     → Does old k (given number what) (expected_if yes) new
 gives_first old new k number what at x d t has may n one other says not none st is =
     let within = slice_get_within old.services at n.0 n.1.there in
-    let few = subst (λ (s : Service). s.calls ≡ [])
-    (same_item old.services at x d within one other) (no_calls x has says not) in
+    let few = rw (same_item old.services at x d within one other) at (no_calls x has says not) in
     gives_on old new k number what at n.0 d t may few none n.1
     (slice_get_read old.services (length old.services) at d refl within other) st is
 
@@ -104,21 +73,10 @@ pub gives_anew : (old new : Log) (at : ℕ) (s d : Service) (what : State) (yes 
     → (yes ≡ true → new ≡ record old { services = old.services ++ t ∷ [] })
     → (yes ≡ false → new.services ≡ old.services)
     → GivesAnew old at d what (expected_if yes) new
-gives_anew old new at s d what true t there same some none st more still = (
-  st.0,
-  (some, none, subst (λ (x : Service). Gives (unseen x.line).start what st.0) same st.1.1),
-  more refl ∙ (ap (λ (x : Service). record old { services = old.services ++ x ∷ [] }) st.2
-      ∙ ap (λ (x : Service). record old {
-        services = old.services ++ started (unseen x.line) st.0 ∷ [];
-      }) same),
-)
-gives_anew old new at s d what false t there same some none st more still = (
-  refl,
-  λ start anew.
-      st.0 start
-      (refl, subst (λ (x : Service). Gives (unseen x.line).start what start) (sym same) anew.2),
-  still refl,
-)
+gives_anew old new at s d what true t there same some none st more still =
+    (st.0, (some, none, rw same at st.1.1), more refl ∙ rw (st.2, same) refl)
+gives_anew old new at s d what false t there same some none st more still =
+    (refl, λ start anew. st.0 start (refl, rw same anew.2), still refl)
 
 -- the same of the line
 pub gives_below : (old new : Log) (k : ℕ) (number : Option ℕ) (what : State) (at : ℕ)

@@ -1,28 +1,14 @@
 -- A weak listing can always start.
-use Rattle.std.proofs.Common.{◌≡◌, inl, inr, ℕ, ◌+◌, ◌<◌, ◌≤◌, List, [], ◌∷◌, ◌++◌, Option, Some, None, get_or, slice_get, take, refl, sym, ◌∙◌, ap, subst, arith}
-use Rattle.std.specs.List.{Contains}
-use Rattle.std.proofs.lemmas.Bool.{cases_lt}
-use Rattle.std.proofs.lemmas.List.Quantifiers.{all_pairs_push}
-use Rattle.std.proofs.lemmas.Option.{same_Some, slice_get-get_or}
-use Rattle.histories.specs.declared.event.Event.{Event}
-use Rattle.histories.specs.declared.event.Event.TheVariants.{End}
-use Rattle.histories.specs.Histories.{Explains, IsExplained, IsOpen, IsOver, StandsAt, begins, times}
-use Rattle.histories.proofs.Counting.{times-append, times_one, times_same}
+use Rattle.history_logs.proofs.Words.{Answers, Contains, End, Event, IsExplained, IsLine, IsLineAt, IsOpen, IsOrderly, IsSaidIn, IsStop, Judged, Line, List, None, Option, Part, Service, Some, StandsAt, StepOf, Watched, [], all_pairs_push, arith, cases_lt, get_or, get_or_from_slice_get, inl, inr, line_text, news, one_more, refl, slice_get, starts, stops, take, times_one, ℕ, ◌++◌, ◌+◌, ◌∷◌, ◌≡◌}
+use Rattle.histories.specs.Histories.{Explains, IsOver, times}
+use Rattle.histories.proofs.Counting.{times-append, times_same}
 use Rattle.histories.proofs.Events.{over_ended}
 use Rattle.histories.proofs.Explaining.{explains_end}
 use Rattle.histories.proofs.Running.{leads_push}
-use Rattle.histories.proofs.Verdicts.{one_more}
 use Rattle.histories.specs.declared.window.Stop.TheVariants as stop
-use Rattle.histories.specs.Windows.{IsStop}
-use Rattle.log_lines.specs.Lines.{IsLine, Line, line_text}
-use Rattle.service_conformance.specs.declared.conformance.possible.Part.{Part}
-use Rattle.service_conformance.specs.Judged.{Judged, JudgedStep, words_of}
-use Rattle.service_conformance.specs.Judged.Judged.{call, starts, stops}
-use Rattle.service_conformance.specs.Looks.{Watched, look_of, looks_after}
-use Rattle.history_logs.specs.Good.{IsOrderly}
-use Rattle.history_logs.specs.Logs.{StepOf, news}
-use Rattle.history_logs.specs.EventLines.{Answers, IsLineAt, IsSaidIn}
-use Rattle.history_logs.specs.Seen.{Service}
+use Rattle.service_conformance.specs.Judged.{JudgedStep, words_of}
+use Rattle.service_conformance.specs.Judged.Judged.{call}
+use Rattle.service_conformance.specs.Looks.{look_of, looks_after}
 
 module _ {S : Type 0} (Step : S → ℕ → S → Type 0) (es : List Event) (olds : List S)
     (old mid new : S) (from : Contains olds old) (order : List ℕ) (call : ℕ)
@@ -34,18 +20,14 @@ module _ {S : Type 0} (Step : S → ℕ → S → Type 0) (es : List Event) (old
       λ c. times-append c order (call ∷ []) in
       record {
         once = λ c.
-            elim (cases_lt 0 (times c (call ∷ []))) as (λ _. times c (order ++ call ∷ []) ≤ 1) [
+            elim (cases_lt 0 (times c (call ∷ []))) [
               | inl here ↦
-                  let same : call ≡ c = times_same c call here in
-                  let none : times c order ≡ 0 = subst (λ x. times x order ≡ 0) same fresh in
-                  let one : times c (call ∷ []) ≡ 1 =
-                  subst (λ x. times x (call ∷ []) ≡ 1) same (times_one call) in
-                  omega (arith, counts c)
+                  rw (← times_same c call here) (omega (arith, counts call, fresh, times_one call))
               | inr away ↦ omega (arith, counts c, ex.once c)
             ];
         begun = λ c some.
-            elim (cases_lt 0 (times c (call ∷ []))) as (λ _. 0 < begins c es) [
-              | inl here ↦ subst (λ x. 0 < begins x es) (times_same c call here) live.0
+            elim (cases_lt 0 (times c (call ∷ []))) [
+              | inl here ↦ rw (← times_same c call here) live.0
               | inr away ↦ ex.begun c (omega (arith, counts c))
             ];
         answered = λ c a. omega (arith, ex.answered c a, counts c);
@@ -57,8 +39,7 @@ module _ {S : Type 0} (Step : S → ℕ → S → Type 0) (es : List Event) (old
   -- so it may be over then
   over_after : IsExplained Step (es ++ End call ∷ []) olds
   over_after =
-      elim (cases_lt 0 (times call order))
-      as (λ _. IsExplained Step (es ++ End call ∷ []) olds) [
+      elim (cases_lt 0 (times call order)) [
         | inl made ↦ (
           old,
           order,
@@ -98,12 +79,11 @@ never s index number p reply o refused ended called =
     let step : StepOf s x.2 number start.0 =
     (starts p reply, (number, omega arith, called), start.1) in
     let live : IsOpen es number = o.history index (End number) ended in
-    let there : get_or s.events index (End number) ≡ End number =
-    same_Some _ _ (sym (slice_get-get_or s.events index (End number) refused.within) ∙ ended) in
-    let more : take (index + 1) s.events ≡ es ++ End number ∷ [] =
-    one_more s.events index (End number) refused.within ∙ ap (λ (e : Event). es ++ e ∷ []) there in
     refused.at.1
-    (subst (λ (l : List Event). IsExplained (StepOf s) l (news s)) (sym more)
+    (rw (
+      one_more s.events index (End number) refused.within,
+      get_or_from_slice_get s.events index (End number) (End number) ended,
+    )
     (over_after (StepOf s) es (news s) x.0 x.2 start.0 x.3 x.1 number x.4 live step))
 
 -- where a reply is refused, its call has words, and they stand in the line

@@ -1,10 +1,7 @@
 -- What the writers get without the orders.
-use Rattle.std.proofs.Common.{◌≡◌, ℕ, false, IfSome, List, Option, Some, None, ◌∙◌, ap, refl, subst}
-use Rattle.std.specs.Io.KnownBytes.{Appends}
-use Rattle.history_logs.specs.declared.logs.verdict.Verdict.{Verdict}
-use Rattle.history_logs.specs.declared.logs.verdict.Verdict.TheVariants.{Conforms}
+use Rattle.history_logs.proofs.Words.{Appends, Conforms, IfSome, List, None, Option, Some, Verdict, ap, false, refl, report_text, subst, ℕ, ◌∙◌, ◌≡◌}
 use Rattle.history_logs.specs.Orders.{ReportedWith}
-use Rattle.history_logs.specs.Reports.{Reported, errors_text, on_errors, on_output, output_text, report_text}
+use Rattle.history_logs.specs.Reports.{Reported, errors_text, on_errors, on_output, output_text}
 
 output_is : (v : Verdict) → on_output v (report_text v) ≡ output_text v
 output_is (Conforms n m) = refl

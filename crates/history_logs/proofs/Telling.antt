@@ -1,16 +1,8 @@
 -- What is reported of configurations.
-use Rattle.std.proofs.Common.{◌≡◌, ℕ, ◌+◌, ◌<◌, List, [], ◌∷◌, ◌++◌, Option, Some, get_or, length, slice_get, take, refl, sym, ◌∙◌, ap, subst}
-use Rattle.std.specs.List.{AllZip}
-use Rattle.std.proofs.lemmas.List.{take_more}
-use Rattle.std.proofs.lemmas.Option.{same_Some, slice_get_read}
+use Rattle.history_logs.proofs.Words.{AllZip, AreLines, IsReported, Judged, List, Option, Service, Some, Watched, [], ap, get_or, length, listed, refl, same_Some, slice_get, slice_get_read, sym, take, take_more, ℕ, ◌++◌, ◌+◌, ◌<◌, ◌∙◌, ◌∷◌, ◌≡◌}
 use Rattle.histories.specs.declared.front.Config.{Config}
-use Rattle.iox2_container.specs.Steps.{listed}
-use Rattle.service_conformance.specs.Judged.{AreJudgedReplies, Judged}
-use Rattle.service_conformance.specs.Looks.{Watched}
+use Rattle.service_conformance.specs.Judged.{AreJudgedReplies}
 use Rattle.history_logs.specs.declared.logs.verdict.Configuration.{Configuration}
-use Rattle.history_logs.specs.Judging.{AreLines}
-use Rattle.history_logs.specs.Logs.{IsReported}
-use Rattle.history_logs.specs.Seen.{Service}
 
 zip_push : {A B : Type 0} (R : A → B → Type 0) (xs : List A) (ys : List B) (x : A) (y : B)
     → AllZip R xs ys → R x y → AllZip R (xs ++ x ∷ []) (ys ++ y ∷ [])
@@ -23,34 +15,31 @@ pub zip_next : {A B : Type 0} (R : A → B → Type 0) (xs : List A) (i : ℕ) (
     (y : B) → AllZip R (take i xs) ys → i < length xs → d ≡ get_or xs i d → R d y
     → more ≡ ys ++ y ∷ [] → AllZip R (take (i + 1) xs) more
 zip_next {A} R xs i d ys more y all h is r new =
-    let one = take_more xs i d h ∙ ap (λ (e : A). take i xs ++ e ∷ []) (sym is) in
-    subst (AllZip R (take (i + 1) xs)) (sym new)
-    (subst (λ (l : List A). AllZip R l (ys ++ y ∷ [])) (sym one)
-    (zip_push R (take i xs) ys d y all r))
+    let one : take (i + 1) xs ≡ take i xs ++ d ∷ [] =
+    take_more xs i d h ∙ ap (λ (e : A). take i xs ++ e ∷ []) (sym is) in
+    rw (new, one) (zip_push R (take i xs) ys d y all r)
 
 -- what is reported of a configuration
 pub reported_of : (s : Service) (call : ℕ) (x : Judged) (slots : List (Option ℕ))
-    (config : Config Watched) (reported : Configuration) (begins : List ℕ) (calls : List Judged)
-    → begins ≡ s.begins → calls ≡ s.calls → call < length s.calls → x ≡ get_or calls call x
-    → AreLines begins slots config.waiting reported.made.items
+    (config : Config Watched) (reported : Configuration) → call < length s.calls
+    → x ≡ get_or s.calls call x → AreLines s.begins slots config.waiting reported.made.items
     → AreJudgedReplies config.state x reported.possible
     → reported.nodes.items ≡ listed config.state.service.nodes.registry
     → reported.ports.items
     ≡ listed config.state.service.ports.first.registry
     ++ listed config.state.service.ports.second.registry
     → (c : Judged) × (slice_get s.calls call ≡ Some c) × IsReported s c slots config reported
-reported_of s call x slots config reported begins calls b k h is made possible nodes ports =
-    let lines = subst (λ l. AreLines l slots config.waiting reported.made.items) b made in (
-      x,
-      slice_get_read s.calls (length s.calls) call x refl h (is ∙ ap (λ l. get_or l call x) k),
-      record {
-        made = lines.made;
-        each = lines.each;
-        possible = possible;
-        nodes = nodes;
-        ports = ports;
-      },
-    )
+reported_of s call x slots config reported h is lines possible nodes ports = (
+  x,
+  slice_get_read s.calls (length s.calls) call x refl h is,
+  record {
+    made = lines.made;
+    each = lines.each;
+    possible = possible;
+    nodes = nodes;
+    ports = ports;
+  },
+)
 
 -- one configuration more
 pub reported_more : (s : Service) (call : ℕ) (x : Judged) (slots : List (Option ℕ))
@@ -62,15 +51,5 @@ pub reported_more : (s : Service) (call : ℕ) (x : Judged) (slots : List (Optio
     → slice_get s.calls call ≡ Some x → news ≡ reported ++ one ∷ []
     → AllZip (IsReported s x slots) (take (i + 1) configs) news
 reported_more s call x slots configs i d reported news one all h is t at new =
-    let same : t.0 ≡ x = same_Some t.0 x (sym t.1 ∙ at) in
     zip_next (IsReported s x slots) configs i d reported news one all h is
-    (subst (λ c. IsReported s c slots d one) same t.2) new
-
--- the same configurations
-pub zip_as : (s : Service) (x : Judged) (slots others : List (Option ℕ))
-    (configs same : List (Config Watched)) (reported : List Configuration) → others ≡ slots
-    → same ≡ configs → AllZip (IsReported s x others) same reported → AllZip (IsReported s x slots)
-    configs reported
-zip_as s x slots others configs same reported e f all =
-    subst (λ (l : List (Option ℕ)). AllZip (IsReported s x l) configs reported) e
-    (subst (λ (l : List (Config Watched)). AllZip (IsReported s x others) l reported) f all)
+    (rw (same_Some t.0 x (sym t.1 ∙ at)) at t.2) new

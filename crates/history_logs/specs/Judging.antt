@@ -107,10 +107,20 @@ Explores bytes s where_cut (Ok window) =
     × (where_cut ≡ cut.Never → IsFrontOf (StepOf s) window.front s.events (news s))
 Explores bytes s where_cut (Err reported) = IsFound bytes s reported.0 reported.1
 
+-- what is found of the service, if anything is, does not come before what is found in this line: a
+-- refused reply, or a bound that is passed
+abbrev pub ComesNotBefore : Bool → ℕ → Service → Type 0
+ComesNotBefore true k s = NoneRefusedAbove k s
+ComesNotBefore false k s = IsRightAbove k s × NoneRefused s
+
+-- whether a reply is refused
+abbrev pub is_refused : Verdict → Bool
+is_refused (verdict.Refused reported) = true
+is_refused _ = false
+
 -- what is found of the service, if anything is, does not come before this, found in this line
 abbrev pub IsNotBefore : ℕ → Verdict → Service → Type 0
-IsNotBefore k (verdict.Refused reported) s = NoneRefusedAbove k s
-IsNotBefore k _ s = IsRightAbove k s × NoneRefused s
+IsNotBefore k v s = ComesNotBefore (is_refused v) k s
 
 -- what is found of one of the services before all else; none where orders explain all
 abbrev pub IsFirstFound : List ℕ → List Service → Option (ℕ × Verdict) → Type 0
@@ -118,11 +128,6 @@ IsFirstFound bytes services None = All IsSeenRightly services
 IsFirstFound bytes services (Some found) =
     (s : Service) × Contains services s × IsFound bytes s found.0 found.1
     × All (IsNotBefore found.0 found.1) services
-
--- whether a reply is refused
-abbrev pub is_refused : Verdict → Bool
-is_refused (verdict.Refused reported) = true
-is_refused _ = false
 
 -- whether something that is found comes before another: a refused reply before a bound that is
 -- passed, and else that in the line above

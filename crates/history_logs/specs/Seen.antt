@@ -1,5 +1,5 @@
 -- What was seen of a service.
-use Rattle.std.specs.Prelude.{◌≡◌, ◌⊎◌, ◌+◌, ◌-◌, ◌≤◌, ℕ, drop, replicate, zero, suc, List, [], ◌∷◌, ◌++◌, Option, Some, None, get_or, length, slice_get}
+use Rattle.std.specs.Prelude.{◌≡◌, ◌⊎◌, ◌+◌, ◌-◌, ◌≤◌, ℕ, drop, replicate, zero, suc, List, [], ◌∷◌, ◌++◌, Option, Some, None, get_or, length, option_and_then, slice_get}
 use Rattle.std.specs.List.{slice_set}
 use Rattle.histories.specs.declared.event.Event.{Event}
 use Rattle.histories.specs.declared.event.Event.TheVariants.{Begin, End, Crash}
@@ -70,14 +70,14 @@ unseen line = record {
   event_lines = [];
 }
 
--- the handle that a call gave, by what is above
-abbrev pub given_at : Service → Option ℕ → Option Handle
-given_at s None = None
-given_at s (Some number) = get_or s.given number None
+-- the handle that a call gave, by those that all calls gave
+abbrev pub given_at : List (Option Handle) → Option ℕ → Option Handle
+given_at given None = None
+given_at given (Some number) = get_or given number None
 
 -- the handle that the command of this number gave, by what is above
 abbrev pub given_by : Service → ℕ → Option Handle
-given_by s number = given_at s (slice_get s.commands number)
+given_by s number = given_at s.given (slice_get s.commands number)
 
 -- the handle that a command names, by what is above
 abbrev pub handle_named : Service → Command → Option Handle
@@ -85,23 +85,23 @@ handle_named s (command.Deregister number) = given_by s number
 handle_named s (command.Release number) = given_by s number
 handle_named s _ = None
 
--- a handle of the service
-abbrev pub handle_in : Service → Role → ℕ → ℕ → Handle
-handle_in s r slot ticket =
-    record { service = s.line.number; role = r; slot = slot; ticket = ticket }
+-- a handle of the service with this line
+abbrev pub handle_in : ServiceLine → Role → ℕ → ℕ → Handle
+handle_in line r slot ticket =
+    record { service = line.number; role = r; slot = slot; ticket = ticket }
 
 -- the call of a command, by what is above
 abbrev pub called : Service → NamedCommand → Judged
 called s (numbered c) = call (call_of c (handle_named s c))
 called s (deregister slot ticket) =
-    call (call_of (command.Deregister 0) (Some (handle_in s role.Node slot ticket)))
+    call (call_of (command.Deregister 0) (Some (handle_in s.line role.Node slot ticket)))
 called s (release r slot ticket) =
-    call (call_of (command.Release 0) (Some (handle_in s r slot ticket)))
+    call (call_of (command.Release 0) (Some (handle_in s.line r slot ticket)))
 
 -- the handle that a reply gives to a call that adds an entry of this role
-abbrev pub given_in : Service → Option Role → SeenReply → Option Handle
-given_in s (Some r) (reply.Handle slot ticket) = Some (handle_in s r slot ticket)
-given_in s _ _ = None
+abbrev pub given_in : ServiceLine → Option Role → SeenReply → Option Handle
+given_in line (Some r) (reply.Handle slot ticket) = Some (handle_in line r slot ticket)
+given_in line _ _ = None
 
 -- the role of the entry that the call adds, if it is one that adds one
 abbrev pub added_by : Option Judged → Option Role
@@ -176,9 +176,7 @@ changed f (c ∷ calls) (suc number) = c ∷ changed f calls number
 
 -- the number with which the weak listing began that stops with the call of this number
 abbrev pub start_of : List Judged → ℕ → Option ℕ
-start_of [] number = None
-start_of (c ∷ calls) zero = stopped c
-start_of (c ∷ calls) (suc number) = start_of calls number
+start_of calls number = option_and_then stopped (slice_get calls number)
 
 -- the calls, where this is the reply to the weak listing that began with this number
 abbrev pub calls_shown : List Judged → Option ℕ → SeenReply → List Judged
@@ -204,7 +202,7 @@ pub record IsKeptCall (s : Service) (number : ℕ) : Type 0 where
 abbrev pub with_end : Service → ℕ → SeenReply → ℕ → Service
 with_end s number r line = record s {
   calls = calls_answered s.calls number r;
-  given = slice_set s.given number (given_in s (added_by (slice_get s.calls number)) r);
+  given = slice_set s.given number (given_in s.line (added_by (slice_get s.calls number)) r);
   events = s.events ++ End number ∷ [];
   event_lines = s.event_lines ++ line ∷ [];
 }

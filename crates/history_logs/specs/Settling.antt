@@ -46,9 +46,9 @@ IsBehindBegun first events number =
 abbrev pub GoesShort : Service → Front Watched → ℕ → Front Watched → Type 0
 GoesShort live old count new =
     (s : Service) → IsOrderly s → (k : IsShort s live (Some old)) → (final : List Judged)
-    → take (begun (k.keeps.has.past ++ take count live.events)) final
-    ≡ take (begun (k.keeps.has.past ++ take count live.events)) s.calls
-    → IsFrontAfter (WindowStep 0 final) (news s) (k.keeps.has.past ++ take count live.events) new
+    → take (begun (k.past ++ take count live.events)) final
+    ≡ take (begun (k.past ++ take count live.events)) s.calls
+    → IsFrontAfter (WindowStep 0 final) (news s) (k.past ++ take count live.events) new
 
 -- each service that was kept so is kept so still
 abbrev pub Stays : Service → Option (Front Watched) → Service → Option (Front Watched) → Type 0

@@ -251,7 +251,7 @@ impl LogService {
     /// A handle of the service.
     #[inline(always)]
     fn handle(&self, role: Role, slot: usize, ticket: u64) -> ContainerHandle
-        ensures { result ≡ handle_in self.now role slot ticket }
+        ensures { result ≡ handle_in self.now.line role slot ticket }
     {
         ContainerHandle::from_parts(self.line.number, role, slot, ticket)
     }
@@ -375,7 +375,7 @@ impl LogService {
     /// The handle that a reply gives to a call that adds an entry of this role.
     #[inline(always)]
     fn given_in(&self, adds: Option<Role>, reply: &SeenReply) -> Option<ContainerHandle>
-        ensures { result ≡ given_in self.now adds reply.now }
+        ensures { result ≡ given_in self.now.line adds reply.now }
     {
         match (adds, reply) {
             (Some(role), SeenReply::Handle(slot, ticket)) => {

@@ -1,8 +1,6 @@
-use Rattle.std.proofs.Common.{◌∙◌, length, rules}
+use Rattle.history_logs.proofs.Words.{Service, length, rules, sum-map, ◌∙◌}
 use Rattle.std.proofs.lemmas.Iterator.{YieldsList-from_map, YieldsList-from_slice}
 use Rattle.std.proofs.lemmas.Iterator.Consumers.{sum_from_yields_List}
-use Rattle.std.proofs.lemmas.List.Sums.{sum-map}
-use Rattle.history_logs.specs.Seen.{Service}
 use Rattle.history_logs.proofs.logs.count_calls.Goals as goal
 
 pub returns : goal.returns

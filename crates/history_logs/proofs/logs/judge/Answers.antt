@@ -1,7 +1,5 @@
-use Rattle.std.proofs.Common.{List, None, subst, sym, arith}
-use Rattle.history_logs.specs.Judging.{AreJudged}
+use Rattle.history_logs.proofs.Words.{AreJudged, List, None, Service, arith, subst, sym}
 use Rattle.history_logs.specs.Logs.{Judged}
-use Rattle.history_logs.specs.Seen.{Service}
 use Rattle.history_logs.proofs.Judgements.{few_calls, judged_end, judged_found}
 use Rattle.history_logs.proofs.Answered.{located_of}
 use Rattle.history_logs.proofs.logs.judge.Goals as goal

@@ -1,7 +1,5 @@
-use Rattle.std.proofs.Common.{None, arith, subst, sym}
-use Rattle.history_logs.specs.Good.{IsReadTo}
+use Rattle.history_logs.proofs.Words.{HasOrders, None, arith, subst, sym}
 use Rattle.history_logs.specs.Logs.{Judged}
-use Rattle.history_logs.specs.Orders.{HasOrders}
 use Rattle.history_logs.proofs.Answered.{located_of}
 use Rattle.history_logs.proofs.Judgements.{few_calls, judged_bad, judged_end, judged_found}
 use Rattle.history_logs.proofs.Ordered.{no_orders, ordered_right, orders_end}

@@ -1,6 +1,4 @@
-use Rattle.std.proofs.Common.{◌++◌, ◌∙◌, List, ℕ, ap}
-use Rattle.std.specs.List.{flat_map}
-use Rattle.history_logs.specs.Reports.{order_text, report_text}
+use Rattle.history_logs.proofs.Words.{List, ap, flat_map, order_text, report_text, ℕ, ◌++◌, ◌∙◌}
 use Rattle.history_logs.proofs.logs.witness_read.Goals as goal
 
 pub returns-clause-text : goal.returns-clause-text

@@ -1,5 +1,4 @@
-use Rattle.std.proofs.Common.{length, ◌≤◌, ◌-◌}
-use Rattle.history_logs.specs.Settling.{AreSameFronts}
+use Rattle.history_logs.proofs.Words.{AreSameFronts, length, ◌-◌, ◌≤◌}
 use Rattle.history_logs.proofs.logs.conforming.add_fronts.Given as goal
 
 abbrev pub invariant-loop-fronts : goal.invariant-loop-fronts

@@ -1,13 +1,6 @@
-use Rattle.std.proofs.Common.{rules, ap, ◌≡◌, ◌+◌, ◌<◌, ◌^◌, List, Option, None, arith, length, refl, subst, sum_by, sym}
-use Rattle.histories.specs.declared.front.Front.{Front}
+use Rattle.history_logs.proofs.Words.{AreNumbers, AreRightShort, Front, HaveShort, IsShortAbove, List, Log, Option, Service, StayAll, Watched, ap, arith, callers_of, length, log_of, refl, rules, subst, sym, waits_in, ◌+◌, ◌≡◌}
 use Rattle.histories.proofs.Indices.{put_back}
-use Rattle.service_conformance.specs.Looks.{Watched}
-use Rattle.history_logs.specs.Fields.{AreNumbers, callers_of, log_of, waits_in}
-use Rattle.history_logs.specs.Judging.{end_verdict}
 use Rattle.history_logs.specs.Logs.{Judged}
-use Rattle.history_logs.specs.Reading.{Log}
-use Rattle.history_logs.specs.Seen.{Service}
-use Rattle.history_logs.specs.Settling.{AreRightShort, HaveShort, IsShortAbove, StayAll}
 use Rattle.history_logs.proofs.Above.{above_new}
 use Rattle.history_logs.proofs.Conforming.{above_sane, above_short, few_short, judged_short, no_more, numbers_stay, short_more, short_none, short_stays}
 use Rattle.history_logs.proofs.Counts.{counts_more, no_counts}
@@ -82,6 +75,12 @@ loop-text-preserved g c =
           (above_short _ read fronts _ (c.loop-text.line + 1) more)
           stay c.in_ok-read.ensures.numbers),
     )
+
+pub are_explained-requires : goal.are_explained-requires
+are_explained-requires g c =
+    let fronts = c.loop-text.fronts.items in
+    subst (λ (l : List Service). HaveShort l fronts) (sym c.deref.ensures.value)
+    (above_short _ (log_of c.loop-text.reading) fronts _ c.loop-text.line c.loop-text.invariant.0)
 
 pub end_verdict-requires-clause-few : goal.end_verdict-requires-clause-few
 end_verdict-requires-clause-few g c =

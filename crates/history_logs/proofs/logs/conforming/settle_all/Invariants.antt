@@ -1,5 +1,4 @@
-use Rattle.std.proofs.Common.{◌≡◌, length}
-use Rattle.history_logs.specs.Settling.{StayAll}
+use Rattle.history_logs.proofs.Words.{StayAll, length, ◌≡◌}
 use Rattle.history_logs.proofs.logs.conforming.settle_all.Given as goal
 
 abbrev pub invariant-loop-at : goal.invariant-loop-at

@@ -1,6 +1,4 @@
-use Rattle.std.proofs.Common.{◌+◌, sym, subst, get_or}
-use Rattle.std.proofs.lemmas.Option.{slice_get-get_or}
-use Rattle.history_logs.specs.Judging.{AreLinesTo}
+use Rattle.history_logs.proofs.Words.{AreLinesTo, get_or, slice_get-get_or, subst, sym, ◌+◌}
 use Rattle.history_logs.proofs.MadeLines.{lines_more, not_waiting}
 use Rattle.history_logs.proofs.logs.judging.add_line.Goals as goal
 

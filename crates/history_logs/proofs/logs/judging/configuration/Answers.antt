@@ -1,13 +1,12 @@
-use Rattle.std.proofs.Common.{◌++◌, ◌∙◌, ap}
-use Rattle.iox2_container.specs.Steps.{listed}
+use Rattle.history_logs.proofs.Words.{ap, listed, ◌++◌, ◌∙◌}
 use Rattle.iox2_dynamic.specs.Service.{Service}
 use Rattle.history_logs.proofs.Telling.{reported_of}
 use Rattle.history_logs.proofs.logs.judging.configuration.Goals as goal
 
 pub returns : goal.returns
 returns c =
-    reported_of _ _ _ _ _ _ _ _ c.begins.ensures c.calls.ensures
-    c.requires.within c.index-calls-call.is c.in_ok-lines_made.ensures
+    reported_of _ _ _ _ _ _ c.requires.within (rw c.calls.ensures at c.index-calls-call.is)
+    (rw c.begins.ensures at c.in_ok-lines_made.ensures)
     c.in_ok-possible_replies.ensures
     (c.in_ok-nodes_listed.ensures
     ∙ ap (λ (s : Service). listed s.nodes.registry) c.service.ensures.service)

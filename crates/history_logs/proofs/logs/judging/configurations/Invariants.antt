@@ -1,7 +1,4 @@
-use Rattle.std.proofs.Common.{◌≡◌, Some, slice_get, take}
-use Rattle.std.specs.List.{AllZip}
-use Rattle.service_conformance.specs.Judged.{Judged}
-use Rattle.history_logs.specs.Logs.{IsReported}
+use Rattle.history_logs.proofs.Words.{AllZip, IsReported, Judged, Some, slice_get, take, ◌≡◌}
 use Rattle.history_logs.proofs.logs.judging.configurations.Given as goal
 
 abbrev pub invariant-loop-config : goal.invariant-loop-config

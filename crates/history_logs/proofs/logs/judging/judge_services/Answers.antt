@@ -1,5 +1,4 @@
-use Rattle.history_logs.specs.Good.{IsOrderly}
-use Rattle.history_logs.specs.EventLines.{HasEventLines}
+use Rattle.history_logs.proofs.Words.{HasEventLines, IsOrderly}
 use Rattle.history_logs.proofs.Found.{first_next, first_none, first_whole, item_of}
 use Rattle.history_logs.proofs.logs.judging.judge_services.Goals as goal
 

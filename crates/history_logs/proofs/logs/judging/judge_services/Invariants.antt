@@ -1,5 +1,4 @@
-use Rattle.std.proofs.Common.{take}
-use Rattle.history_logs.specs.Judging.{IsFirstFound}
+use Rattle.history_logs.proofs.Words.{IsFirstFound, take}
 use Rattle.history_logs.proofs.logs.judging.judge_services.Given as goal
 
 abbrev pub invariant-loop-service : goal.invariant-loop-service

@@ -1,4 +1,4 @@
-use Rattle.history_logs.specs.Judging.{AreLinesTo}
+use Rattle.history_logs.proofs.Words.{AreLinesTo}
 use Rattle.history_logs.proofs.logs.judging.lines_made.Given as goal
 
 abbrev pub invariant-loop-slot : goal.invariant-loop-slot

@@ -1,8 +1,6 @@
-use Rattle.std.proofs.Common.{◌∙◌, List, Option, ℕ, length, refl, subst, sym}
-use Rattle.history_logs.specs.Judging.{AreBelow}
+use Rattle.history_logs.proofs.Words.{refl, ◌∙◌}
 use Rattle.history_logs.proofs.Needing.{begin_cut, begin_within}
 use Rattle.history_logs.proofs.Refusing.{begun_within, call_within, refused_in, window_below, window_within}
-use Rattle.history_logs.proofs.Telling.{zip_as}
 use Rattle.history_logs.proofs.logs.judging.refused.Goals as goal
 
 pub begin_of-begin-requires : goal.begin_of-begin-requires
@@ -20,9 +18,8 @@ lines_needed-requires-clause-cut c =
 
 pub configurations-requires-clause-below : goal.configurations-requires-clause-below
 configurations-requires-clause-below c =
-    let s = c.args.service.now in
-    subst (λ (slots : List (Option ℕ)). AreBelow slots (length s.begins))
-    (sym c.deref.ensures.value) (window_below s c.requires.orderly _ c.args.window.now
+    rw c.deref.ensures.value
+    (window_below c.args.service.now c.requires.orderly _ c.args.window.now
     c.requires.stops.within c.requires.window)
 
 pub configurations-requires-clause-within : goal.configurations-requires-clause-within
@@ -47,5 +44,4 @@ returns c =
     (found.0, c.in_ok-command.ensures.items ∙ found.1))
     c.requires.stops c.line_at.ensures c.in_ok-needed.ensures
     (λ x at.
-    zip_as s x w.front.slots.items _ w.front.configs.items _ _ c.deref.ensures.value
-    c.deref-2.ensures.value (c.in_ok-configurations.ensures x at))
+    rw (c.deref.ensures.value, c.deref-2.ensures.value) at (c.in_ok-configurations.ensures x at))

@@ -1,4 +1,4 @@
-use Rattle.std.proofs.Common.{refl}
+use Rattle.history_logs.proofs.Words.{refl}
 use Rattle.histories.specs.declared.window.Stop.TheVariants as stop
 use Rattle.history_logs.proofs.Found.{line_within}
 use Rattle.history_logs.proofs.logs.judging.reported_of.Goals as goal

@@ -1,7 +1,5 @@
-use Rattle.std.proofs.Common.{◌≡◌, ◌-◌, suc, zero, subst, arith}
-use Rattle.log_lines.specs.Lines.{line_text}
-use Rattle.history_logs.specs.EventLines.{IsLineAt}
-use Rattle.history_logs.proofs.LinesAt.{cut_to, if_ok, line_first, no_line}
+use Rattle.history_logs.proofs.Words.{IfOk-weaker, IsLineAt, arith, line_text, subst, suc, zero, ◌-◌, ◌≡◌}
+use Rattle.history_logs.proofs.LinesAt.{cut_to, line_first, no_line}
 use Rattle.history_logs.proofs.logs.judging.words_in.Goals as goal
 
 pub returns-then-line-eq0 : goal.returns-then-line-eq0
@@ -14,10 +12,10 @@ returns-in-Some c =
     let e : suc (c.args.line - 1) ≡ c.args.line = omega arith in
     let none = c.in-Some.ensures.read.0 in
     let split = c.in-Some.ensures.read.1 in
-    if_ok _ _ c.words_read.result c.words_read.ensures (λ v says. λ seen words is a at.
+    IfOk-weaker c.words_read.result _ _ (λ v says seen words is a at.
     says seen words is a
     (line_first rest _ _ (line_text seen) none split
-    (cut_to _ rest _ (line_text seen) e c.after_lines-rest.ensures at)))
+    (cut_to _ rest _ (line_text seen) e c.after_lines-rest.ensures at))) c.words_read.ensures
 
 pub returns-in-None : goal.returns-in-None
 returns-in-None c = λ seen words is a at.

@@ -1,5 +1,4 @@
-use Rattle.std.proofs.Common.{refl}
-use Rattle.histories.specs.Needed.{is_kept}
+use Rattle.history_logs.proofs.Words.{is_kept, refl}
 use Rattle.history_logs.proofs.Needing.{line_none}
 use Rattle.history_logs.proofs.logs.needed.add_begun.Goals as goal
 

@@ -1,5 +1,4 @@
-use Rattle.std.proofs.Common.{refl, sym}
-use Rattle.histories.specs.Needed.{is_kept}
+use Rattle.history_logs.proofs.Words.{is_kept, refl, sym}
 use Rattle.history_logs.proofs.Needing.{line_kept, line_left}
 use Rattle.history_logs.proofs.logs.needed.add_kept.Goals as goal
 

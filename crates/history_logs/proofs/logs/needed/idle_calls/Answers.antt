@@ -1,4 +1,4 @@
-use Rattle.std.proofs.Common.{subst, sym}
+use Rattle.history_logs.proofs.Words.{subst, sym}
 use Rattle.history_logs.proofs.Needing.{IdleTo, idle_none, idle_push}
 use Rattle.history_logs.proofs.logs.needed.idle_calls.Goals as goal
 

@@ -1,10 +1,6 @@
-use Rattle.std.proofs.Common.{Some, List, ◌∙◌, ap, arith, eqb, flat_map, take_all}
+use Rattle.history_logs.proofs.Words.{Event, List, Some, ap, arith, eqb, events_of, flat_map, is_kept, line_begun, slice_get-get_or, take_all, ◌∙◌}
 use Rattle.std.specs.List.{dedup}
 use Rattle.std.proofs.lemmas.List.Filters.{dedup_is}
-use Rattle.std.proofs.lemmas.Option.{slice_get-get_or}
-use Rattle.histories.specs.declared.event.Event.{Event}
-use Rattle.histories.specs.Needed.{events_of, is_kept}
-use Rattle.history_logs.specs.Logs.{line_begun}
 use Rattle.history_logs.proofs.Needing.{lines_more}
 use Rattle.history_logs.proofs.logs.needed.lines_begun.Goals as goal
 

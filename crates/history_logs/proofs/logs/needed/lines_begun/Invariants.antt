@@ -1,7 +1,4 @@
-use Rattle.std.proofs.Common.{◌≡◌, take}
-use Rattle.std.specs.List.{flat_map}
-use Rattle.histories.specs.Needed.{events_of, is_kept}
-use Rattle.history_logs.specs.Logs.{line_begun}
+use Rattle.history_logs.proofs.Words.{events_of, flat_map, is_kept, line_begun, take, ◌≡◌}
 use Rattle.history_logs.proofs.logs.needed.lines_begun.Given as goal
 
 abbrev pub invariant-loop-event : goal.invariant-loop-event

@@ -1,6 +1,4 @@
-use Rattle.std.proofs.Common.{take}
-use Rattle.std.specs.List.{AllZip}
-use Rattle.history_logs.specs.Logs.{BeginsAt}
+use Rattle.history_logs.proofs.Words.{AllZip, BeginsAt, take}
 use Rattle.history_logs.proofs.logs.ordering.lines_of.Given as goal
 
 abbrev pub invariant-loop-call : goal.invariant-loop-call

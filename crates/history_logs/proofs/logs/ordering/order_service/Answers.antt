@@ -1,4 +1,4 @@
-use Rattle.std.proofs.Common.{refl}
+use Rattle.history_logs.proofs.Words.{refl}
 use Rattle.history_logs.proofs.logs.ordering.order_service.Goals as goal
 
 pub order_of-requires : goal.order_of-requires

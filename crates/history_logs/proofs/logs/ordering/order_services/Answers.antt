@@ -1,5 +1,4 @@
-use Rattle.history_logs.specs.Good.{IsOrderly}
-use Rattle.history_logs.specs.EventLines.{HasEventLines}
+use Rattle.history_logs.proofs.Words.{HasEventLines, IsOrderly}
 use Rattle.history_logs.proofs.Found.{first_whole, item_of}
 use Rattle.history_logs.proofs.Ordered.{orders_all, orders_next, orders_none}
 use Rattle.history_logs.proofs.logs.ordering.order_services.Goals as goal

@@ -1,5 +1,4 @@
-use Rattle.std.proofs.Common.{rules}
-use Rattle.history_logs.specs.Fields.{log_of}
+use Rattle.history_logs.proofs.Words.{log_of, rules}
 use Rattle.history_logs.proofs.Above.{above_more, above_new, read_bad, read_newline}
 use Rattle.history_logs.proofs.Kept.{sane_of}
 use Rattle.history_logs.proofs.Counts.{counts_more, no_counts}

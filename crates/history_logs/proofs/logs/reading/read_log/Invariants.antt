@@ -1,7 +1,4 @@
-use Rattle.std.proofs.Common.{length}
-use Rattle.history_logs.specs.Fields.{AreNumbers, log_of}
-use Rattle.history_logs.specs.Good.{IsAbove}
-use Rattle.history_logs.specs.Progress.{AddsCounts}
+use Rattle.history_logs.proofs.Words.{AddsCounts, AreNumbers, IsAbove, length, log_of}
 use Rattle.history_logs.proofs.logs.reading.read_log.Given as goal
 
 abbrev pub invariant-loop-text : goal.invariant-loop-text

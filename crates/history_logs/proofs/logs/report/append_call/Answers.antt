@@ -1,4 +1,4 @@
-use Rattle.std.proofs.Common.{◌∷◌, ◌++◌, codes, decimal}
+use Rattle.history_logs.proofs.Words.{codes, decimal, ◌++◌, ◌∷◌}
 use Rattle.history_logs.specs.Reports.{call_text}
 use Rattle.history_logs.proofs.Reports.{two_parts}
 use Rattle.history_logs.proofs.logs.report.append_call.Goals as goal

@@ -1,4 +1,4 @@
-use Rattle.history_logs.specs.Reports.{config_text}
+use Rattle.history_logs.proofs.Words.{config_text}
 use Rattle.history_logs.proofs.Reports.{flat_next}
 use Rattle.history_logs.proofs.logs.report.append_configurations.Goals as goal
 

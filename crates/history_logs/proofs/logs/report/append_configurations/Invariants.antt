@@ -1,6 +1,4 @@
-use Rattle.std.proofs.Common.{◌≡◌, ◌++◌, take}
-use Rattle.std.specs.List.{flat_map}
-use Rattle.history_logs.specs.Reports.{config_text}
+use Rattle.history_logs.proofs.Words.{config_text, flat_map, take, ◌++◌, ◌≡◌}
 use Rattle.history_logs.proofs.logs.report.append_configurations.Given as goal
 
 abbrev pub invariant-loop-one : goal.invariant-loop-one

@@ -1,4 +1,4 @@
-use Rattle.std.proofs.Common.{◌≡◌, [], ◌∷◌, ◌++◌, List, ℕ, codes, decimal, rules}
+use Rattle.history_logs.proofs.Words.{List, [], codes, decimal, rules, ℕ, ◌++◌, ◌∷◌, ◌≡◌}
 use Rattle.history_logs.specs.Reports.{for_count}
 use Rattle.history_logs.proofs.Reports.{four_parts}
 use Rattle.history_logs.proofs.logs.report.append_conforms.Goals as goal

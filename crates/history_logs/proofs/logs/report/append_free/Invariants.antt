@@ -1,4 +1,4 @@
-use Rattle.std.proofs.Common.{◌≡◌, ◌++◌, drop}
+use Rattle.history_logs.proofs.Words.{drop, ◌++◌, ◌≡◌}
 use Rattle.history_logs.specs.Reports.{free_text}
 use Rattle.history_logs.proofs.logs.report.append_free.Given as goal
 

@@ -1,6 +1,4 @@
-use Rattle.std.proofs.Common.{◌≡◌, ◌++◌, take}
-use Rattle.std.specs.List.{flat_map}
-use Rattle.history_logs.specs.Reports.{line_of}
+use Rattle.history_logs.proofs.Words.{flat_map, line_of, take, ◌++◌, ◌≡◌}
 use Rattle.history_logs.proofs.logs.report.append_lines.Given as goal
 
 abbrev pub invariant-loop-number : goal.invariant-loop-number

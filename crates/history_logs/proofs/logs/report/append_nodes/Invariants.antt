@@ -1,6 +1,4 @@
-use Rattle.std.proofs.Common.{◌≡◌, ◌++◌, take}
-use Rattle.std.specs.List.{flat_map}
-use Rattle.service_descriptions.specs.Replies.{id_word}
+use Rattle.history_logs.proofs.Words.{flat_map, id_word, take, ◌++◌, ◌≡◌}
 use Rattle.history_logs.proofs.logs.report.append_nodes.Given as goal
 
 abbrev pub invariant-loop-id : goal.invariant-loop-id

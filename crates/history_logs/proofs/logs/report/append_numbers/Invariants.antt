@@ -1,6 +1,4 @@
-use Rattle.std.proofs.Common.{◌≡◌, ◌++◌, take}
-use Rattle.std.specs.List.{flat_map}
-use Rattle.history_logs.specs.Reports.{number_word}
+use Rattle.history_logs.proofs.Words.{flat_map, number_word, take, ◌++◌, ◌≡◌}
 use Rattle.history_logs.proofs.logs.report.append_numbers.Given as goal
 
 abbrev pub invariant-loop-number : goal.invariant-loop-number

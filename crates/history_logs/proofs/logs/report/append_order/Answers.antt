@@ -1,6 +1,4 @@
-use Rattle.std.proofs.Common.{◌≡◌, [], ◌∷◌, ◌++◌, List, ℕ, codes, decimal, rules, ◌∙◌, ap, append_assoc}
-use Rattle.std.specs.List.{flat_map}
-use Rattle.history_logs.specs.Reports.{line_of}
+use Rattle.history_logs.proofs.Words.{List, [], ap, append_assoc, codes, decimal, flat_map, line_of, rules, ℕ, ◌++◌, ◌∙◌, ◌∷◌, ◌≡◌}
 use Rattle.history_logs.proofs.Reports.{two_parts}
 use Rattle.history_logs.proofs.logs.report.append_order.Goals as goal
 

@@ -1,4 +1,4 @@
-use Rattle.history_logs.specs.Reports.{order_text}
+use Rattle.history_logs.proofs.Words.{order_text}
 use Rattle.history_logs.proofs.Reports.{flat_next}
 use Rattle.history_logs.proofs.logs.report.append_orders.Goals as goal
 

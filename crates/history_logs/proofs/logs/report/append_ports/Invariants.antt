@@ -1,5 +1,4 @@
-use Rattle.std.proofs.Common.{◌≡◌, ◌++◌, take}
-use Rattle.std.specs.List.{flat_map}
+use Rattle.history_logs.proofs.Words.{flat_map, take, ◌++◌, ◌≡◌}
 use Rattle.service_descriptions.specs.Replies.{port_word}
 use Rattle.history_logs.proofs.logs.report.append_ports.Given as goal
 

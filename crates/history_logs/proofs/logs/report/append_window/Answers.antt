@@ -1,6 +1,5 @@
-use Rattle.std.proofs.Common.{◌∷◌, ◌++◌, codes, decimal}
-use Rattle.std.specs.List.{flat_map}
-use Rattle.history_logs.specs.Reports.{number_word, window_text}
+use Rattle.history_logs.proofs.Words.{codes, decimal, flat_map, number_word, ◌++◌, ◌∷◌}
+use Rattle.history_logs.specs.Reports.{window_text}
 use Rattle.history_logs.proofs.Reports.{two_parts}
 use Rattle.history_logs.proofs.logs.report.append_window.Goals as goal
 

@@ -1,4 +1,4 @@
-use Rattle.std.proofs.Common.{◌∙◌, refl, sym, arith}
+use Rattle.history_logs.proofs.Words.{arith, refl, sym, ◌∙◌}
 use Rattle.history_logs.proofs.Answering.{shown_none, shown_past, shown_set, stops_kept}
 use Rattle.history_logs.proofs.logs.service.show.Goals as goal
 

@@ -1,5 +1,5 @@
-use Rattle.std.proofs.Common.{arith, below_more, rules, ℕ}
-use Rattle.history_logs.specs.Settling.{MayFollowAt}
+use Rattle.history_logs.proofs.Words.{MayFollowAt, arith, rules, ℕ}
+use Rattle.std.proofs.Common.{below_more}
 use Rattle.history_logs.proofs.Least.{over_upto}
 use Rattle.history_logs.proofs.logs.settling.count_settled.Goals as goal
 

@@ -1,5 +1,4 @@
-use Rattle.std.proofs.Common.{ℕ, ◌<◌}
-use Rattle.history_logs.specs.Settling.{MayFollowAt}
+use Rattle.history_logs.proofs.Words.{MayFollowAt, ℕ, ◌<◌}
 use Rattle.history_logs.proofs.logs.settling.count_settled.Given as goal
 
 abbrev pub invariant-loop-at : goal.invariant-loop-at

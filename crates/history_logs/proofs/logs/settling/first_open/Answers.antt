@@ -1,4 +1,4 @@
-use Rattle.std.proofs.Common.{◌≡◌, flat_map, fold, min, option_to_list, rules, subst, sym}
+use Rattle.history_logs.proofs.Words.{flat_map, fold, min, option_to_list, rules, subst, sym, ◌≡◌}
 use Rattle.std.proofs.iter.runs.Made.{chains}
 use Rattle.history_logs.proofs.Least.{IsLeast, least_is}
 use Rattle.history_logs.proofs.logs.settling.first_open.Goals as goal

@@ -1,7 +1,7 @@
-use Rattle.std.proofs.Common.{rules, tests}
+use Rattle.history_logs.proofs.Words.{IsOn, rules}
+use Rattle.std.proofs.Common.{tests}
 use Rattle.std.proofs.lemmas.Iterator.{cases_from_any}
 use Rattle.std.proofs.lemmas.Iterator.Consumers.{YieldsList-from_rest}
-use Rattle.history_logs.specs.Fields.{IsOn}
 use Rattle.history_logs.proofs.Callers.{says_calls}
 use Rattle.history_logs.proofs.logs.callers.Callers.has_open_on.Goals as goal
 

@@ -1,4 +1,4 @@
-use Rattle.std.proofs.Common.{rules}
+use Rattle.history_logs.proofs.Words.{rules}
 use Rattle.history_logs.proofs.Callers.{sets_state}
 use Rattle.history_logs.proofs.logs.callers.Callers.set.Goals as goal
 

@@ -1,5 +1,4 @@
-use Rattle.std.proofs.Common.{ap, rules}
-use Rattle.service_descriptions.specs.declared.replay.lines.service_line.ServiceLine.{ServiceLine}
+use Rattle.history_logs.proofs.Words.{ServiceLine, ap, rules}
 use Rattle.history_logs.proofs.Named.{numbers_added}
 use Rattle.history_logs.proofs.logs.reading.Reading.add_number.Goals as goal
 

@@ -1,4 +1,4 @@
-use Rattle.std.proofs.Common.{◌∙◌}
+use Rattle.history_logs.proofs.Words.{◌∙◌}
 use Rattle.history_logs.proofs.Named.{count_numbers}
 use Rattle.history_logs.proofs.logs.reading.Reading.count_services.Goals as goal
 

@@ -1,10 +1,4 @@
-use Rattle.std.proofs.Common.{rules, ◌≡◌, ◌∙◌, List, false, true, ap, refl, subst}
-use Rattle.std.proofs.lemmas.Option.{get_or_from_slice_get}
-use Rattle.log_lines.specs.States.{state_seen}
-use Rattle.history_logs.specs.Fields.{callers_of, log_of}
-use Rattle.history_logs.specs.Good.{Starts}
-use Rattle.history_logs.specs.Reading.{Log}
-use Rattle.history_logs.specs.Seen.{Service, unseen}
+use Rattle.history_logs.proofs.Words.{List, Log, Service, Starts, ap, callers_of, false, get_or_from_slice_get, log_of, refl, rules, state_seen, subst, true, unseen, ◌∙◌, ◌≡◌}
 use Rattle.history_logs.proofs.Starting.{gives_anew, some_calls}
 use Rattle.history_logs.proofs.logs.reading.Reading.give_anew.Goals as goal
 

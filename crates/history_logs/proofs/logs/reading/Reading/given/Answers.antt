@@ -1,9 +1,4 @@
-use Rattle.std.proofs.Common.{◌≡◌, ◌∙◌, ◌<◌, List, true, false, ap, arith, length, refl, subst}
-use Rattle.std.proofs.lemmas.Option.{get_or_from_slice_get, slice_get_within}
-use Rattle.log_lines.specs.States.{state_seen}
-use Rattle.history_logs.specs.Fields.{log_of}
-use Rattle.history_logs.specs.Reading.{IsNamed}
-use Rattle.history_logs.specs.Seen.{Service}
+use Rattle.history_logs.proofs.Words.{Service, arith, false, get_or_from_slice_get, length, log_of, refl, slice_get_within, state_seen, subst, true, ◌<◌, ◌∙◌, ◌≡◌}
 use Rattle.history_logs.proofs.Starting.{gives_first, ok_below}
 use Rattle.history_logs.proofs.logs.reading.Reading.given.Goals as goal
 

@@ -1,10 +1,5 @@
-use Rattle.std.proofs.Common.{rules, ℕ, ◌≡◌, ◌∙◌, Option, None, Some, ap, slice_get, sym}
-use Rattle.std.proofs.lemmas.Option.{slice_get-get_or}
-use Rattle.std.specs.List.{slice_set}
+use Rattle.history_logs.proofs.Words.{None, Option, Service, Some, ap, log_of, named, rules, slice_get, slice_get-get_or, slice_set, sym, waits_in, ℕ, ◌∙◌, ◌≡◌}
 use Rattle.log_lines.specs.declared.command.LogCommand.{LogCommand}
-use Rattle.log_lines.specs.Commands.{named}
-use Rattle.history_logs.specs.Fields.{log_of, waits_in}
-use Rattle.history_logs.specs.Seen.{Service}
 use Rattle.history_logs.proofs.Named.{numbers_set, same_numbers}
 use Rattle.history_logs.proofs.Refused.{ok_next, replied}
 use Rattle.history_logs.proofs.logs.reading.Reading.go.Goals as goal

@@ -1,8 +1,5 @@
-use Rattle.std.proofs.Common.{rules, ◌≡◌}
-use Rattle.log_lines.specs.Commands.{HasText, command_text, named}
-use Rattle.log_lines.specs.Lines.Line.{call}
-use Rattle.std.specs.Prelude.{None}
-use Rattle.history_logs.specs.Fields.{log_of}
+use Rattle.history_logs.proofs.Words.{None, call, log_of, named, rules, ◌≡◌}
+use Rattle.log_lines.specs.Commands.{HasText, command_text}
 use Rattle.history_logs.proofs.Refused.{taken}
 use Rattle.history_logs.proofs.logs.reading.Reading.next.Goals as goal
 

@@ -1,4 +1,4 @@
-use Rattle.std.proofs.Common.{◌∙◌, sym}
+use Rattle.history_logs.proofs.Words.{sym, ◌∙◌}
 use Rattle.history_logs.proofs.Named.{count_numbers, last_named, none_named}
 use Rattle.history_logs.proofs.logs.reading.Reading.only_service.Goals as goal
 

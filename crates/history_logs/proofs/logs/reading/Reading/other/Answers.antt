@@ -1,11 +1,7 @@
-use Rattle.std.proofs.Common.{rules, ◌≡◌, IsTrue, List, None, Some, arith, length, true, false, refl, subst, sym, take}
-use Rattle.log_lines.specs.Lines.{IsLine, line_seen, line_text}
+use Rattle.history_logs.proofs.Words.{AreNumbers, IsLine, None, Some, TakesNext, arith, false, is_service, length, line_seen, line_text, log_of, nil_from_length, refl, rules, subst, sym, take, true, ◌≡◌}
 use Rattle.history_logs.specs.declared.logs.reading.Reading.{Reading}
-use Rattle.history_logs.specs.Fields.{AreNumbers, log_of}
-use Rattle.history_logs.specs.Good.{TakesNext, is_service}
-use Rattle.history_logs.specs.Seen.{Service}
 use Rattle.history_logs.proofs.Kept.{numbers_line}
-use Rattle.history_logs.proofs.Refused.{nil_of, taken, wrong_first}
+use Rattle.history_logs.proofs.Refused.{taken, wrong_first}
 use Rattle.history_logs.proofs.logs.reading.Reading.other.Goals.{else-is_empty-via-then-is_empty+else-not-is_service, else-is_empty-via-else-is_empty}
 use Rattle.history_logs.proofs.logs.reading.Reading.other.Goals as goal
 
@@ -15,7 +11,7 @@ returns-then-not-is_service-clause-takes c =
     let p : IsLine l = search rules in
     let is : c.args.text.now ≡ line_text l = search rules in
     let none : length c.args.self.now.services.items ≡ 0 = search rules in
-    let empty = nil_of c.args.self.now.services.items none in
+    let empty = nil_from_length c.args.self.now.services.items none in
     let other : is_service l ≡ false = search rules in
     (wrong_first (log_of c.args.self.now) _ l p is empty other, refl)
 

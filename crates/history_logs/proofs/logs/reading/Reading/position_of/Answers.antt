@@ -1,4 +1,4 @@
-use Rattle.std.proofs.Common.{◌∙◌}
+use Rattle.history_logs.proofs.Words.{◌∙◌}
 use Rattle.history_logs.proofs.Named.{last_found}
 use Rattle.history_logs.proofs.logs.reading.Reading.position_of.Goals as goal
 

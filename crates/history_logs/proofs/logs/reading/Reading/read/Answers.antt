@@ -1,5 +1,4 @@
-use Rattle.std.proofs.Common.{rules}
-use Rattle.history_logs.specs.Fields.{log_of}
+use Rattle.history_logs.proofs.Words.{log_of, rules}
 use Rattle.history_logs.proofs.Refused.{bad_line, bad_return}
 use Rattle.history_logs.proofs.logs.reading.Reading.read.Goals as goal
 

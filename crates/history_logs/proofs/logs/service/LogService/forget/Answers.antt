@@ -1,6 +1,5 @@
-use Rattle.std.proofs.Common.{refl}
+use Rattle.history_logs.proofs.Words.{refl, service_of}
 use Rattle.history_logs.proofs.Answering.{forget_is}
-use Rattle.history_logs.specs.ServiceFields.{service_of}
 use Rattle.history_logs.proofs.logs.service.LogService.forget.Goals as goal
 
 pub returns : goal.returns

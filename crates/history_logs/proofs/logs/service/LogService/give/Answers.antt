@@ -1,8 +1,4 @@
-use Rattle.std.proofs.Common.{◌≡◌, length, rules}
-use Rattle.log_lines.specs.States.{state_seen}
-use Rattle.history_logs.specs.ServiceFields.{service_of}
-use Rattle.history_logs.proofs.LinesAt.{if_ok}
-use Rattle.history_logs.proofs.Refused.{nil_of}
+use Rattle.history_logs.proofs.Words.{IfOk-weaker, length, nil_from_length, rules, service_of, state_seen, ◌≡◌}
 use Rattle.history_logs.proofs.Starting.{starts_of}
 use Rattle.history_logs.proofs.logs.service.LogService.give.Goals as goal
 
@@ -11,5 +7,6 @@ returns c =
     let s = service_of c.self.inside in
     let none : length s.calls ≡ 0 = search rules in
     rw (← c.self.view_is)
-    (if_ok _ _ _ c.give.ensures
-    (λ may b. starts_of s (state_seen c.args.given) _ may (nil_of s.calls none) b))
+    (IfOk-weaker _ _ _
+    (λ may b. starts_of s (state_seen c.args.given) _ may (nil_from_length s.calls none) b)
+    c.give.ensures)

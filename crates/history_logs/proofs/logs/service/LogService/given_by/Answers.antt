@@ -1,7 +1,4 @@
-use Rattle.std.proofs.Common.{◌≡◌, ℕ, None, List, Some, ◌∙◌, ap, slice_get, subst, sym, arith}
-use Rattle.std.proofs.lemmas.Option.{slice_get-get_or}
-use Rattle.history_logs.specs.Seen.{Service, given_by}
-use Rattle.history_logs.specs.ServiceFields.{service_of}
+use Rattle.history_logs.proofs.Words.{List, None, Service, Some, ap, arith, given_by, service_of, slice_get, slice_get-get_or, subst, sym, ℕ, ◌∙◌, ◌≡◌}
 use Rattle.history_logs.proofs.Answering.{given_past}
 use Rattle.history_logs.proofs.logs.service.LogService.given_by.Goals as goal
 
