@@ -24,6 +24,9 @@ fn calls_that_are_open(rt: HostRuntime) -> Result<(), Fail> {
     assert_eq!(rt; writes(alloc, 1)?, Found::Left(1));
     assert_eq!(rt; writes(alloc, 4)?, Found::Left(8));
     assert_eq!(rt; writes(alloc, 10)?, Found::Left(512));
-    assert_eq!(rt; writes(alloc, MAX_OPEN + 1)?, Found::Stopped(MAX_OPEN, Advance::ManyOpen));
+    assert_eq!(rt;
+        writes(alloc, MAX_OPEN + 1)?,
+        Found::Stopped(MAX_OPEN, Advance::ManyOpen)
+    );
     Ok(())
 }

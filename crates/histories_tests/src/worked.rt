@@ -43,7 +43,10 @@ fn real_time_decides(rt: HostRuntime) -> Result<(), Fail> {
     let reads = |first, second| [Access::Write(1), Access::Read(first), Access::Read(second)];
     assert_eq!(rt; judged(alloc, &reads(0, 1), &begins)?, Found::Left(1));
     // The second read begins when the first one, of the new value, is over.
-    assert_eq!(rt; judged(alloc, &reads(1, 0), &begins)?, Found::Stopped(4, Advance::Refused));
+    assert_eq!(rt;
+        judged(alloc, &reads(1, 0), &begins)?,
+        Found::Stopped(4, Advance::Refused)
+    );
     // The same replies, where the reads overlap.
     let overlap = [
         Event::Begin(0),
@@ -64,7 +67,10 @@ fn calls_that_never_end(rt: HostRuntime) -> Result<(), Fail> {
     let seen = |value| [Access::Write(1), Access::Read(value)];
     assert_eq!(rt; judged(alloc, &seen(1), &events)?, Found::Left(1));
     assert_eq!(rt; judged(alloc, &seen(0), &events)?, Found::Left(1));
-    assert_eq!(rt; judged(alloc, &seen(2), &events)?, Found::Stopped(2, Advance::Refused));
+    assert_eq!(rt;
+        judged(alloc, &seen(2), &events)?,
+        Found::Stopped(2, Advance::Refused)
+    );
     // A read that never ends has any reply, and is made at once.
     let calls = [Access::Unanswered, Access::Read(0)];
     assert_eq!(rt; judged(alloc, &calls, &events)?, Found::Left(1));
@@ -105,7 +111,10 @@ fn callers_that_crash(rt: HostRuntime) -> Result<(), Fail> {
     // The write took effect before the crash, or never.
     assert_eq!(rt; judged(alloc, &seen(1, 1), &events)?, Found::Left(1));
     assert_eq!(rt; judged(alloc, &seen(0, 0), &events)?, Found::Left(1));
-    assert_eq!(rt; judged(alloc, &seen(0, 1), &events)?, Found::Stopped(5, Advance::Refused));
+    assert_eq!(rt;
+        judged(alloc, &seen(0, 1), &events)?,
+        Found::Stopped(5, Advance::Refused)
+    );
     // Without the crash, it may take effect between the reads.
     let open = [
         Event::Begin(0),
