@@ -1,6 +1,5 @@
 -- What an add does.
-use Rattle.iox2_container.proofs.Prelude.{◌+◌, ◌<◌, ◌∙◌, ◌≡◌, ◌≢◌, ◌≤◌, All, All-weaker, List, None, Ok, Option, Some, ℕ, ap, arith, false, length, length-map, length-set, map, refl, slice_get, slice_get_within, slice_set}
-use Rattle.iox2_container.specs.Prelude.{AddStep, AreRegistry, Cell, Entry, InsertsOne, IsNewestEnd, Occupant, RegistryHeader, entries_from, occupant, registry_of, shown}
+use Rattle.iox2_container.proofs.Prelude.{AddStep, All, All-weaker, AreRegistry, Cell, Entry, InsertsOne, IsNewestEnd, List, None, Occupant, Ok, Option, RegistryHeader, Some, ap, arith, entries_from, false, length, length-map, length-set, map, occupant, refl, registry_of, shown, slice_get, slice_get_within, slice_set, ℕ, ◌+◌, ◌<◌, ◌∙◌, ◌≡◌, ◌≢◌, ◌≤◌}
 use Rattle.iox2_container.proofs.CellEntries.{gains_write, slots_from, below_from, shown_from, room_from}
 use Rattle.iox2_container.proofs.Gaining.{length-InsertsOne}
 use Rattle.iox2_container.proofs.Keeping.{All-gain, kept_add}

@@ -1,6 +1,5 @@
 -- Callbacks that are called in turn.
-use Rattle.iox2_container.proofs.Prelude.{[], ◌++◌, ◌+◌, ◌∙◌, ◌∷◌, ◌≡◌, List, None, Option, Some, ℕ, ap, append-nil, append_assoc, arith, inl, inr, map, map-append, refl, slice_get, suc, sym, take, zero}
-use Rattle.iox2_container.specs.Prelude.{CalledInTurn, CalledOnCell, CallbackProgression, Continue, Entry, Occupant, Stop, Visit, Visits, entries_from, occupant}
+use Rattle.iox2_container.proofs.Prelude.{CallbackProgression, CalledInTurn, CalledOnCell, Continue, Entry, List, None, Occupant, Option, Some, Stop, Visit, Visits, [], ap, append-nil, append_assoc, arith, entries_from, inl, inr, map, map-append, occupant, refl, slice_get, suc, sym, take, zero, ℕ, ◌++◌, ◌+◌, ◌∙◌, ◌∷◌, ◌≡◌}
 use Rattle.iox2_container.proofs.CellEntries.{same_entry}
 
 pub CalledInTurn-push : {F A R : Type 0} (calls : F → A → R → F → Type 0) (f : F) (items : List A)

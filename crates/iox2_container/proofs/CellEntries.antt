@@ -1,6 +1,5 @@
 -- The entries that stand in cells.
-use Rattle.iox2_container.proofs.Prelude.{[], ◌+◌, ◌<◌, ◌∙◌, ◌∷◌, ◌≡◌, ◌≢◌, ◌≤◌, All, All-cons, All-nil, All-weaker, AllPairs, AllPairs-cons, List, None, Option, Some, ℕ, ap, arith, get_or_from_slice_get, length, refl, replicate, set-get_or, set-set, slice_get, slice_get_within, slice_set, suc, sym, take, zero}
-use Rattle.iox2_container.specs.Prelude.{Entry, InsertsOne, NoneFrom, Occupant, entries_from, occupant}
+use Rattle.iox2_container.proofs.Prelude.{All, All-cons, All-nil, All-weaker, AllPairs, AllPairs-cons, Entry, InsertsOne, List, None, NoneFrom, Occupant, Option, Some, [], ap, arith, entries_from, get_or_from_slice_get, length, occupant, refl, replicate, set-get_or, set-set, slice_get, slice_get_within, slice_set, suc, sym, take, zero, ℕ, ◌+◌, ◌<◌, ◌∙◌, ◌∷◌, ◌≡◌, ◌≢◌, ◌≤◌}
 use Rattle.iox2_container.proofs.ListEdits.{get_set_same}
 
 -- the entry is that of a cell

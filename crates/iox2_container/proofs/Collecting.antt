@@ -1,6 +1,5 @@
 -- Callbacks that collect what they are called on, and callbacks that answer by what they hold.
-use Rattle.iox2_container.proofs.Prelude.{[], ◌++◌, ◌+◌, ◌<◌, ◌∙◌, ◌∷◌, ◌≡◌, ◌≤◌, Bool, IsTrue, List, ℕ, ap, append-nil, append_assoc, arith, false, filter, if◌then◌else◌, inl, inr, length, map, refl, sym, true}
-use Rattle.iox2_container.specs.Prelude.{CalledInTurn, CallbackProgression, CanVisit, Continue, Stop, Visit, Visits}
+use Rattle.iox2_container.proofs.Prelude.{Bool, CallbackProgression, CalledInTurn, CanVisit, Continue, IsTrue, List, Stop, Visit, Visits, [], ap, append-nil, append_assoc, arith, false, filter, if◌then◌else◌, inl, inr, length, map, refl, sym, true, ℕ, ◌++◌, ◌+◌, ◌<◌, ◌∙◌, ◌∷◌, ◌≡◌, ◌≤◌}
 use Rattle.iox2_container.proofs.Callable.{CalledInTurn-keeps, CanVisit-by}
 
 -- a callback that puts what it makes of each item that

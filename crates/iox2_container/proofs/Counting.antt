@@ -1,6 +1,5 @@
 -- How many entries a test holds of.
-use Rattle.iox2_container.proofs.Prelude.{[], ◌++◌, ◌+◌, ◌<◌, ◌∙◌, ◌∷◌, ◌≡◌, ◌≤◌, ◌⊎◌, All, All-cons, All-nil, Bool, IsSome, List, MatchBool, MatchOption, None, Option, Some, ℕ, add-one, ap, arith, false, if◌then◌else◌, inl, inr, leb_tells, length, lt-ltb, nat_lt, refl, same_Some, slice_get, suc, sym, take, true}
-use Rattle.iox2_container.specs.Prelude.{AreOthers, Entry, Found, InsertsOne, IsLastOf, IsNextOf, IsTakenAt, NoneFrom, Occupant, SlotIsOf, candidates, cell_is_of, entries_from, is_of, staying}
+use Rattle.iox2_container.proofs.Prelude.{All, All-cons, All-nil, AreOthers, Bool, Entry, Found, InsertsOne, IsLastOf, IsNextOf, IsSome, IsTakenAt, List, MatchBool, MatchOption, None, NoneFrom, Occupant, Option, SlotIsOf, Some, [], add-one, ap, arith, candidates, cell_is_of, entries_from, false, if◌then◌else◌, inl, inr, is_of, leb_tells, length, lt-ltb, nat_lt, refl, same_Some, slice_get, staying, suc, sym, take, true, ℕ, ◌++◌, ◌+◌, ◌<◌, ◌∙◌, ◌∷◌, ◌≡◌, ◌≤◌, ◌⊎◌}
 use Rattle.iox2_container.proofs.CallsInTurn.{entries_split, taken_free, taken_more}
 use Rattle.iox2_container.proofs.CellEntries.{all_before}
 use Rattle.iox2_container.proofs.Sweeping.{over_others}

@@ -1,7 +1,5 @@
 -- What follows where a list of entries gains one.
-use Rattle.std.proofs.Common.{arith, rules}
-use Rattle.iox2_container.proofs.Prelude.{[], ◌++◌, ◌+◌, ◌∷◌, ◌≡◌, All, All-append, All-cons, All-drop, All-head, All-tail, All-take, AllPairs, AllPairs-cons, List, arith, length, length-append, suc, zero}
-use Rattle.iox2_container.specs.Prelude.{Entry, InsertsOne}
+use Rattle.iox2_container.proofs.Prelude.{All, All-append, All-cons, All-drop, All-head, All-tail, All-take, AllPairs, AllPairs-cons, Entry, InsertsOne, List, [], arith, length, length-append, rules, suc, zero, ◌++◌, ◌+◌, ◌∷◌, ◌≡◌}
 use Rattle.std.proofs.Math.Seq.{take-append_seam, drop-append_seam}
 
 pub AllPairs-head : {X : Type 0} (R : X → X → Type 0) (x : X) (xs : List X) → AllPairs R (x ∷ xs)

@@ -1,6 +1,5 @@
 -- What each change leaves as it was, what it adds and what it takes out.
-use Rattle.iox2_container.proofs.Prelude.{[], ◌∙◌, ◌∷◌, ◌≡◌, ◌≤◌, ◌⊎◌, Bool, Contains, Err, List, Ok, Result, ℕ, ap, arith, inl, inr, map, refl, sym}
-use Rattle.iox2_container.specs.Prelude.{AddStep, Adding, Change, ChangeStep, ContainerAddFailure, ContainerRemoveError, Enters, Entry, Handle, IsLocked, IsRegistry, Leaves, OutOfSpace, Recovering, Recovers, RegistryState, ReleaseMode, ReleaseState, RemoveStep, Removing, TakesOut, handle_of, leaving}
+use Rattle.iox2_container.proofs.Prelude.{AddStep, Adding, Bool, Change, ChangeStep, ContainerAddFailure, ContainerRemoveError, Contains, Enters, Entry, Err, Handle, IsLocked, IsRegistry, Leaves, List, Ok, OutOfSpace, Recovering, Recovers, RegistryState, ReleaseMode, ReleaseState, RemoveStep, Removing, Result, TakesOut, [], ap, arith, handle_of, inl, inr, leaving, map, refl, sym, ℕ, ◌∙◌, ◌∷◌, ◌≡◌, ◌≤◌, ◌⊎◌}
 use Rattle.iox2_container.proofs.Members.{Among, DifferBy, among_contained, among_less, among_more, contains_among, gained, moved, other_differs}
 use Rattle.iox2_container.proofs.Leaving.{leaves_among, stays_among, stays_apart, stays_or_leaves}
 

@@ -1,6 +1,5 @@
 -- The handles that a registry gave: what it knows of them while it is called.
-use Rattle.iox2_container.proofs.Prelude.{[], ⊤, ◌++◌, ◌<◌, ◌∙◌, ◌∷◌, ◌≡◌, Err, List, None, Ok, Option, Result, Some, ℕ, ap, arith, inl, inr, suc, zero}
-use Rattle.iox2_container.specs.Prelude.{AddStep, Adding, CallStep, ContainerAddFailure, ContainerRemoveError, ContainerState, Enters, Entry, Handle, IsRegistry, RegistryCall, RegistryReply, RegistryState, ReleaseMode, ReleaseState, RemoveGiven, handle_given, handle_in, handle_of, is_of, reply_of_add, reply_of_remove}
+use Rattle.iox2_container.proofs.Prelude.{AddStep, Adding, CallStep, ContainerAddFailure, ContainerRemoveError, ContainerState, Enters, Entry, Err, Handle, IsRegistry, List, None, Ok, Option, RegistryCall, RegistryReply, RegistryState, ReleaseMode, ReleaseState, RemoveGiven, Result, Some, [], ap, arith, handle_given, handle_in, handle_of, inl, inr, is_of, reply_of_add, reply_of_remove, suc, zero, ℕ, ⊤, ◌++◌, ◌<◌, ◌∙◌, ◌∷◌, ◌≡◌}
 use Rattle.iox2_container.specs.declared.container.comparison.calls.RegistryCall.TheVariants as Call
 use Rattle.iox2_container.specs.declared.container.comparison.calls.RegistryReply.TheVariants as Reply
 use Rattle.iox2_container.proofs.Members.{Among, of_all}

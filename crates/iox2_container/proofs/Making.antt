@@ -1,7 +1,5 @@
 -- New containers.
-use Rattle.std.proofs.Common.{arith}
-use Rattle.iox2_container.proofs.Prelude.{◌≡◌, All-nil, List, Option, ℕ, ap, false, length, length-replicate, map, refl, replicate, sym}
-use Rattle.iox2_container.specs.Prelude.{AreRegistry, Cell, Free, IsNewestEnd, Occupant, RegistryHeader, Role, container, fresh, registry_of, shown}
+use Rattle.iox2_container.proofs.Prelude.{All-nil, AreRegistry, Cell, Free, IsNewestEnd, List, Occupant, Option, RegistryHeader, Role, ap, arith, container, false, fresh, length, length-replicate, map, refl, registry_of, replicate, shown, sym, ℕ, ◌≡◌}
 use Rattle.iox2_container.proofs.CellEntries.{nothing_stands}
 use Rattle.iox2_container.proofs.Keeping.{new_is_registry}
 use Rattle.iox2_container.proofs.ShownCells.{nothing_shown_yet}

@@ -1,6 +1,5 @@
 -- What a call does, it does with other details too.
-use Rattle.iox2_container.proofs.Prelude.{[], ◌<◌, ◌==◌, ◌∙◌, ◌∷◌, ◌≡◌, ◌≢◌, All-map, AllPairs, AllPairs-cons, Bool, Err, List, Ok, Result, ℕ, ap, arith, filter_agree, length, length-map, map, map-append, map-map}
-use Rattle.iox2_container.specs.Prelude.{AddStep, Adds, Changes, ContainerAddFailure, ContainerRemoveError, ContainerState, Entry, Handle, HasEntry, InsertsOne, IsLocked, IsRegistry, IsUnknownHandle, OutOfSpace, RegistryState, ReleaseMode, ReleaseState, RemoveStep, Removes, candidates, container_as, entries_of, entry_as, handle_of, is_of, registry_as}
+use Rattle.iox2_container.proofs.Prelude.{AddStep, Adds, All-map, AllPairs, AllPairs-cons, Bool, Changes, ContainerAddFailure, ContainerRemoveError, ContainerState, Entry, Err, Handle, HasEntry, InsertsOne, IsLocked, IsRegistry, IsUnknownHandle, List, Ok, OutOfSpace, RegistryState, ReleaseMode, ReleaseState, RemoveStep, Removes, Result, [], ap, arith, candidates, container_as, entries_of, entry_as, filter_agree, handle_of, is_of, length, length-map, map, map-append, map-map, registry_as, ℕ, ◌<◌, ◌==◌, ◌∙◌, ◌∷◌, ◌≡◌, ◌≢◌}
 use Rattle.iox2_container.proofs.ListEdits.{filter-map}
 use Rattle.iox2_container.proofs.Gaining.{AllPairs-head, AllPairs-tail}
 

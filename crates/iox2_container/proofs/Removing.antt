@@ -1,6 +1,5 @@
 -- What a removal does.
-use Rattle.iox2_container.proofs.Prelude.{[], ◌+◌, ◌-◌, ◌∙◌, ◌∷◌, ◌≡◌, ◌≤◌, Bool, IsTrue, List, None, Ok, Option, Some, ℕ, ap, arith, length, length-set, refl, slice_set, suc, zero}
-use Rattle.iox2_container.specs.Prelude.{AreRegistry, Default, Entry, Finds, Handle, InsertsOne, IsNewestEnd, LockIfLastIndex, Occupant, RegistryHeader, ReleaseMode, RemoveStep, entries_from, lock_after, registry_of, release_state}
+use Rattle.iox2_container.proofs.Prelude.{AreRegistry, Bool, Default, Entry, Finds, Handle, InsertsOne, IsNewestEnd, IsTrue, List, LockIfLastIndex, None, Occupant, Ok, Option, RegistryHeader, ReleaseMode, RemoveStep, Some, [], ap, arith, entries_from, length, length-set, lock_after, refl, registry_of, release_state, slice_set, suc, zero, ℕ, ◌+◌, ◌-◌, ◌∙◌, ◌∷◌, ◌≡◌, ◌≤◌}
 use Rattle.iox2_container.proofs.CellEntries.{gains_clear, below_from}
 use Rattle.iox2_container.proofs.Gaining.{length-InsertsOne}
 use Rattle.iox2_container.proofs.Handles.{has_parts}

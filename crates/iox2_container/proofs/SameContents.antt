@@ -1,6 +1,5 @@
 -- Two registries under the same calls.
-use Rattle.iox2_container.proofs.Prelude.{[], ⊤, ◌&&◌, ◌++◌, ◌+◌, ◌∙◌, ◌∷◌, ◌≡◌, ◌≢◌, All, AllZip, AllZip-push, Bool, Err, IsPermutation, List, None, Ok, Option, Result, Some, ℕ, ap, arith, inl, inr, length, length-map, length_permutation, not, refl, suc, sym, zero}
-use Rattle.iox2_container.specs.Prelude.{AddStep, CallRun, CallStep, ContainerAddFailure, ContainerRemoveError, ContainerState, Enters, Entry, Handle, HasRoom, IsFull, IsLocked, IsNew, IsRegistry, Leaves, OutOfSpace, RecoverStep, RegistryCall, RegistryReply, RegistryState, ReleaseMode, ReleaseState, RemoveGiven, RemoveStep, SameKind, SameReply, handle_given, handle_of, is_of, is_outside, listed, lock_after, release_state, reply_of_add, reply_of_remove}
+use Rattle.iox2_container.proofs.Prelude.{AddStep, All, AllZip, AllZip-push, Bool, CallRun, CallStep, ContainerAddFailure, ContainerRemoveError, ContainerState, Enters, Entry, Err, Handle, HasRoom, IsFull, IsLocked, IsNew, IsPermutation, IsRegistry, Leaves, List, None, Ok, Option, OutOfSpace, RecoverStep, RegistryCall, RegistryReply, RegistryState, ReleaseMode, ReleaseState, RemoveGiven, RemoveStep, Result, SameKind, SameReply, Some, [], ap, arith, handle_given, handle_of, inl, inr, is_of, is_outside, length, length-map, length_permutation, listed, lock_after, not, refl, release_state, reply_of_add, reply_of_remove, suc, sym, zero, ℕ, ⊤, ◌&&◌, ◌++◌, ◌+◌, ◌∙◌, ◌∷◌, ◌≡◌, ◌≢◌}
 use Rattle.iox2_container.specs.declared.container.comparison.calls.RegistryCall.TheVariants as Call
 use Rattle.iox2_container.specs.declared.container.comparison.calls.RegistryReply.TheVariants as Reply
 use Rattle.iox2_container.proofs.Collecting.{answers_by}

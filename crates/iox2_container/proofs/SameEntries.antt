@@ -1,7 +1,5 @@
 -- Lists of entries that hold the same details with the same tickets, whatever their slots are.
-use Rattle.std.proofs.Common.{arith}
-use Rattle.iox2_container.proofs.Prelude.{[], ◌∙◌, ◌∷◌, ◌≡◌, ◌≢◌, Bool, IsPermutation, IsPermutation-cons, IsPermutation-middle, IsPermutation-refl, IsPermutation-sym, IsPermutation-trans, List, ℕ, ap, filter, inl, inr, map-append, refl, subst, sym}
-use Rattle.iox2_container.specs.Prelude.{Entry, InsertsOne}
+use Rattle.iox2_container.proofs.Prelude.{Bool, Entry, InsertsOne, IsPermutation, IsPermutation-cons, IsPermutation-middle, IsPermutation-refl, IsPermutation-sym, IsPermutation-trans, List, [], ap, arith, filter, inl, inr, map-append, refl, subst, sym, ℕ, ◌∙◌, ◌∷◌, ◌≡◌, ◌≢◌}
 use Rattle.iox2_container.proofs.Keeping.{AllPairs-loss}
 use Rattle.iox2_container.proofs.CallsInTurn.{details_of}
 use Rattle.iox2_container.proofs.Members.{Among, gained, among_more, among_less, without, DifferBy, head_differs, rest_differ, other_differs, filter_from, filter_to}

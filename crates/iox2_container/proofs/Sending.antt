@@ -1,5 +1,5 @@
 -- Registries may be sent to another thread, if their details may.
-use Rattle.std.proofs.Common.{rules}
+use Rattle.iox2_container.proofs.Prelude.{rules}
 use denote.RattleType.{RattleType}
 use denote.Enum.Declared as enum
 use denote.Enum.Enum.{Enum}

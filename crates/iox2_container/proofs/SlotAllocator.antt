@@ -1,6 +1,5 @@
 -- What a change does to slots of which the free ones are in a list.
-use Rattle.iox2_container.proofs.Prelude.{[], ◌+◌, ◌<◌, ◌∙◌, ◌∷◌, ◌≡◌, ◌≢◌, ◌≤◌, All, All-cons, All-head, All-nil, All-tail, List, None, Option, Some, ℕ, ap, arith, length, length-set, map, map-set, refl, replicate, slice_get, slice_get_within, slice_set, subst, sym}
-use Rattle.iox2_container.specs.Prelude.{Entry, Free, IsFreeAt, IsFreeList, IsTakenAt, LeadsThrough, Linked, PutsFirst, Taken, TakesFirst, TakesLastFreed, entries_from, shown}
+use Rattle.iox2_container.proofs.Prelude.{All, All-cons, All-head, All-nil, All-tail, Entry, Free, IsFreeAt, IsFreeList, IsTakenAt, LeadsThrough, Linked, List, None, Option, PutsFirst, Some, Taken, TakesFirst, TakesLastFreed, [], ap, arith, entries_from, length, length-set, map, map-set, refl, replicate, shown, slice_get, slice_get_within, slice_set, subst, sym, ℕ, ◌+◌, ◌<◌, ◌∙◌, ◌∷◌, ◌≡◌, ◌≢◌, ◌≤◌}
 use Rattle.iox2_container.specs.declared.container.free.FreeList.{FreeList}
 use Rattle.iox2_container.proofs.CellEntries.{gains_write, gains_clear, nothing_stands}
 use Rattle.iox2_container.proofs.Gaining.{length-InsertsOne}

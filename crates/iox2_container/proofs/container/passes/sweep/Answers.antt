@@ -1,5 +1,4 @@
-use Rattle.iox2_container.proofs.Prelude.{◌+◌, ◌≡◌, CalledAt, TakesAt, arith, false, if◌then◌else◌, map, refl}
-use Rattle.iox2_container.specs.Prelude.{is_of, occupant, shown}
+use Rattle.iox2_container.proofs.Prelude.{CalledAt, TakesAt, arith, false, if◌then◌else◌, is_of, map, occupant, refl, shown, ◌+◌, ◌≡◌}
 use Rattle.iox2_container.proofs.Sweeping.{cells_swept}
 use Rattle.iox2_container.proofs.CellsToCome.{sweep_ends, sweep_next, sweep_past, takes_next}
 use Rattle.iox2_container.proofs.container.passes.sweep.Goals as goal

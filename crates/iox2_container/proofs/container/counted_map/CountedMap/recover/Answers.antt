@@ -1,5 +1,4 @@
-use Rattle.iox2_container.proofs.Prelude.{CalledAt, arith, length-map, map}
-use Rattle.iox2_container.specs.Prelude.{is_of, shown}
+use Rattle.iox2_container.proofs.Prelude.{CalledAt, arith, is_of, length-map, map, shown}
 use Rattle.iox2_container.proofs.CellEntries.{room_from}
 use Rattle.iox2_container.proofs.Recovering.{kept_recover, newest_recover, recovers_none}
 use Rattle.iox2_container.proofs.Removing.{nothing_left}

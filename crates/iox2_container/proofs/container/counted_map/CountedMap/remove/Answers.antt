@@ -1,5 +1,4 @@
-use Rattle.iox2_container.proofs.Prelude.{arith, length-map, map, refl}
-use Rattle.iox2_container.specs.Prelude.{shown}
+use Rattle.iox2_container.proofs.Prelude.{arith, length-map, map, refl, shown}
 use Rattle.iox2_container.proofs.Handles.{foreign_by_ticket}
 use Rattle.iox2_container.proofs.Removing.{some_stood, kept_clear, newest_clear, remove_step}
 use Rattle.iox2_container.proofs.container.counted_map.CountedMap.remove.Goals as goal
