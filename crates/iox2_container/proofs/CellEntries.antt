@@ -18,13 +18,9 @@ stand_later low c cells =
 pub entries_stand : {T : Type 0} (low : ℕ) (cells : List (Option (Occupant T)))
     → All (HasEntry low cells) (entries_from low cells)
 entries_stand {T} low [] = All-nil (HasEntry low ([]))
-entries_stand low (None ∷ cells) =
-    stand_later low None cells (entries_from (low + 1) cells) (entries_stand (low + 1) cells)
+entries_stand low (None ∷ cells) = grind (arith, stand_later, entries_stand (low + 1) cells)
 entries_stand low (Some o ∷ cells) =
-    All-cons (HasEntry low (Some o ∷ cells))
-    (record { slot = low; ticket = o.ticket; details = o.details }) (entries_from (low + 1) cells)
-    (record { at = zero; slot_is = omega arith; cell_is = refl })
-    (stand_later low (Some o) cells (entries_from (low + 1) cells) (entries_stand (low + 1) cells))
+    grind (arith, All-cons, stand_later, entries_stand (low + 1) cells)
 
 pub slots_from : {T : Type 0} (low : ℕ) (cells : List (Option (Occupant T)))
     → AllPairs (λ (v w : Entry T). v.slot < w.slot) (entries_from low cells)

@@ -41,6 +41,15 @@ AllPairs-cut R (y ∷ b) a x p =
     (All-cut (R y) b a x (AllPairs-head R y (b ++ x ∷ a) p))
     (AllPairs-cut R b a x (AllPairs-tail R y (b ++ x ∷ a) p))
 
+-- each of the others is related to the one between them
+pub AllPairs-around : {X : Type 0} (R : X → X → Type 0) (b a : List X) (x : X)
+    → ((y : X) → R y x → R x y) → AllPairs R (b ++ x ∷ a) → All (R x) (b ++ a)
+AllPairs-around R [] a x s p = AllPairs-head R x a p
+AllPairs-around R (y ∷ b) a x s p =
+    All-cons (R x) y (b ++ a)
+    (s y (All-head (R y) x a (All-back (R y) b (x ∷ a) (AllPairs-head R y (b ++ x ∷ a) p))))
+    (AllPairs-around R b a x s (AllPairs-tail R y (b ++ x ∷ a) p))
+
 -- there is one more
 pub length-InsertsOne : {T : Type 0} (old new : List (Entry T)) (x : Entry T) → InsertsOne old new x
     → length new ≡ length old + 1

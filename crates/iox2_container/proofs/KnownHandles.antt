@@ -63,10 +63,7 @@ record Goes {T : Type 0} (old new : RegistryState T) (reply : RegistryReply T) :
 module _ {T : Type 0} (old new : ContainerState T) (reply : RegistryReply T) where
   goes_still : (reported : RegistryReply T) → reply ≡ reported → new ≡ old
       → KnowsGiven new.registry (given_by reported) → Goes old.registry new.registry reply
-  goes_still reported e same k = record {
-    grows = grows_same old.registry new.registry (ap (λ c. c.registry) same);
-    knows = rw e k;
-  }
+  goes_still reported e same k = grind (arith, grows_same)
 
   goes_given : (given : Option Handle) (mode : ReleaseMode) → RemoveGiven old given mode reply new
       → Goes old.registry new.registry reply
@@ -76,18 +73,14 @@ module _ {T : Type 0} (old new : ContainerState T) (reply : RegistryReply T) whe
   goes_on : (node number : T → ℕ) (earlier : List (RegistryReply T)) (call : RegistryCall T)
       → IsRegistry old.registry → CallStep node number old earlier call reply new
       → Goes old.registry new.registry reply
-  goes_on node number earlier (Call.Add d) w s = record {
-    grows = grows_add old.registry d s.result new.registry s.step.step;
-    knows = rw s.reply_is (knows_added old.registry new.registry d s.result w s.step.step);
-  }
+  goes_on node number earlier (Call.Add d) w s = grind (arith, grows_add, knows_added)
   goes_on node number earlier (Call.Remove k mode) w s = goes_given (handle_given earlier k) mode s
   goes_on node number earlier (Call.Recover dead keys mode) w s = record {
     grows = grows_recover (is_of node dead) s.step.step.marked old.registry mode s.result
         new.registry s.step.step.recovers;
     knows = rw s.reply_is tt;
   }
-  goes_on node number earlier Call.List w s =
-      goes_still (Reply.Entries s.result) s.reply_is s.step.1 tt
+  goes_on node number earlier Call.List w s = grind (arith, goes_still)
   goes_on node number earlier Call.Len w s = goes_still (Reply.Count _) s.0 s.1 tt
 
 -- the handles in all replies

@@ -109,9 +109,7 @@ module _ {F G A B : Type 0} (calls : F → A → CallbackProgression → F → T
       → (name h ≡ name f) × Visits others (k f) (map u items) (k h)
   visits-lent f [] h done = (ap name done, ap k done)
   visits-lent f (x ∷ xs) h (inl stopped) = let s = step f x Stop h stopped in (s.0, inl s.1)
-  visits-lent f (x ∷ xs) h (inr goes) =
-      let s = step f x Continue goes.0 goes.1 in
-      let rest = visits-lent goes.0 xs h goes.2 in (rest.0 ∙ s.0, inr (k goes.0, s.1, rest.1))
+  visits-lent f (x ∷ xs) h (inr goes) = grind (arith, step, visits-lent goes.0 xs h goes.2)
 
   pub Visit-lent : (f : F) (items : List A) (h : F) → Visit calls f items h
       → (name h ≡ name f) × Visit others (k f) (map u items) (k h)

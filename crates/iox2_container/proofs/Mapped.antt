@@ -40,8 +40,7 @@ module _ {T U : Type 0} (g : T → U) where
       (new : RegistryState T) → AddStep old details answer new
       → AddStep (registry_as g old) (g details) answer (registry_as g new)
   AddStep-as old details (Err IsLocked) new h = (h.0, ap (registry_as g) h.1)
-  AddStep-as old details (Err OutOfSpace) new h =
-      (h.0, rw (length-map old.entries (entry_as g)) h.1, ap (registry_as g) h.2)
+  AddStep-as old details (Err OutOfSpace) new h = grind (arith, length-map)
   AddStep-as old details (Ok handle) new h = (
     h.0,
     rw (length-map old.entries (entry_as g)) h.1,

@@ -20,29 +20,14 @@ record SameContents {T : Type 0} (a b : RegistryState T) : Type 0 where
   pub back : AreAmong b.entries a.entries
 
 turned : {T : Type 0} (a b : RegistryState T) → SameContents a b → SameContents b a
-turned a b l =
-    record {
-      capacity = sym l.capacity;
-      budget = sym l.budget;
-      used = sym l.used;
-      locked = sym l.locked;
-      there = l.back;
-      back = l.there;
-    }
+turned a b l = grind arith
 
 -- they still do, where only entries, locks and tickets changed
 alike_after : {T : Type 0} (a b a' b' : RegistryState T) {es fs : List (Entry T)} {k m : Bool}
     {u v : ℕ} → SameContents a b → a' ≡ record a { entries = es; locked = k; used = u }
     → b' ≡ record b { entries = fs; locked = m; used = v } → u ≡ v → k ≡ m
     → AreAmong a'.entries b'.entries → AreAmong b'.entries a'.entries → SameContents a' b'
-alike_after a b a' b' l ea eb used locked there back = rw (ea, eb) (record {
-  capacity = l.capacity;
-  budget = l.budget;
-  used = used;
-  locked = locked;
-  there = rw (ea, eb) at there;
-  back = rw (ea, eb) at back;
-})
+alike_after a b a' b' l ea eb used locked there back = grind arith
 
 module _ {T : Type 0} (a b : RegistryState T) (there : AreAmong a.entries b.entries)
     (back : AreAmong b.entries a.entries) (v : IsRegistry a) (w : IsRegistry b) where
@@ -127,15 +112,7 @@ module _ {T : Type 0} (a b a' b' : RegistryState T) (l : SameContents a b) (v : 
         } → t ≡ release_state a'.locked → u ≡ release_state b'.locked
         → AreAmong a'.entries b'.entries → AreAmong b'.entries a'.entries
         → Outcome a' b' (Reply.State t) (Reply.State u)
-    released_same t u ea eb st su there back =
-        let alike = alike_after a b a' b' l ea eb l.used
-        (rw (same_length a b l.there l.back v w, same_length a' b' there back v' w', l.locked) refl)
-        there back in
-        record {
-          same = ap Reply.State (st ∙ (ap release_state alike.locked ∙ sym su));
-          alike = alike;
-          tickets = tt;
-        }
+    released_same t u ea eb st su there back = grind (arith, alike_after, same_length)
 
     remove_same : (h k : Handle) (r s : Result ReleaseState ContainerRemoveError)
         → h.ticket ≡ k.ticket → Knows a h → Knows b k → RemoveStep a h mode r a'
@@ -218,13 +195,8 @@ module _ {T : Type 0} (a b a' b' : ContainerState T) (l : SameContents a.registr
         (recover_same a.registry b.registry a'.registry b'.registry l v w v' w' mode
         (is_of node dead) (is_outside number keys.items) p.result q.result p.step.step q.step.step)
     call_same node number xs ys Call.List r s ka kb e p q =
-        outcome_still r (Reply.Entries p.result) s (Reply.Entries q.result) p.reply_is q.reply_is
-        p.step.1 q.step.1
-        (rw (p.step.0, q.step.0) (same_listed a.registry b.registry l.there l.back v w)) tt
-    call_same node number xs ys Call.Len r s ka kb e p q =
-        outcome_still r (Reply.Count (length a.registry.entries)) s
-        (Reply.Count (length b.registry.entries)) p.0 q.0 p.1 q.1
-        (ap Reply.Count (same_length a.registry b.registry l.there l.back v w)) tt
+        grind (arith, same_listed, outcome_still)
+    call_same node number xs ys Call.Len r s ka kb e p q = grind (arith, same_length, outcome_still)
 
 run_same : {T : Type 0} (node number : T → ℕ) (a b a' b' : ContainerState T)
     (xs ys : List (RegistryReply T)) (calls : List (RegistryCall T))

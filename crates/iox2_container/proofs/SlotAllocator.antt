@@ -60,17 +60,8 @@ module _ {T : Type 0} (cells : List (Linked T)) (l : FreeList) (slot : ℕ) (m :
       → standing cells + length freed ≡ l.fresh → LeadsThrough cells m.head left
       → All (λ other. other ≢ slot) left → TakesLastFreed freed l.fresh slot left m.fresh
       → Took cells slot m
-  took_by t [] left room free below counted th apart (at, none, next) = record {
-    at = rw at (cell_free cells l.fresh (omega arith) (t.fresh_are_free l.fresh (omega arith)));
-    free = left;
-    threads = th;
-    apart = apart;
-    used_before = rw none (All-nil (λ other. other < m.fresh));
-    before = omega (arith, at, next);
-    fresh_are_free = λ other n. t.fresh_are_free other (omega (arith, next));
-    all_counted = omega (arith, next, ap length none);
-    fresh_within = omega (arith, next);
-  }
+  took_by t [] left room free below counted th apart (at, none, next) =
+      grind (arith, cell_free, t.fresh_are_free, All-nil)
   took_by t (s ∷ slots) left room free below counted th apart (at, rest, next) = record {
     at = rw at (All-head (IsFreeAt cells) s slots free);
     free = left;

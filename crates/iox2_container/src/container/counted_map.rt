@@ -66,7 +66,7 @@ pub struct CountedMap<T: Copy, S: SlotAllocator<T>> {
     pub(super) header: RegistryHeader,
     pub(super) slots: EntrySlots<T, S::Next>,
     pub(super) free: S,
-    // Behind the slot of the entry that came last, whose node is likely to be asked for next.
+    // Just behind the slot of the entry that came last: the next query is likely about its node.
     pub(super) newest_end: usize,
 }
 

@@ -1,3 +1,4 @@
+use Rattle.iox2_container.proofs.Prelude.{arith}
 use Rattle.iox2_container.proofs.Making.{new_kept, new_is_fresh, new_newest}
 use Rattle.iox2_container.proofs.container.counted_map.CountedMap.new.Goals as goal
 
