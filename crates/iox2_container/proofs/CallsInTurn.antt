@@ -1,5 +1,5 @@
 -- Callbacks that are called in turn.
-use Rattle.iox2_container.proofs.Prelude.{CallbackProgression, CalledInTurn, CalledOnCell, Continue, Entry, List, None, Occupant, Option, Some, Stop, Visit, Visits, [], ap, append-nil, append_assoc, arith, entries_from, inl, inr, map, map-append, occupant, refl, slice_get, suc, sym, take, zero, ℕ, ◌++◌, ◌+◌, ◌∙◌, ◌∷◌, ◌≡◌}
+use Rattle.iox2_container.proofs.Prelude.{CallbackProgression, CalledInTurn, CalledOnCell, Continue, Entry, List, None, Occupant, Option, Some, Stop, Visit, Visits, [], ap, append-nil, append_assoc, arith, entries_from, inl, inr, map, map-append, occupant, refl, slice_get, suc, take, zero, ℕ, ◌++◌, ◌+◌, ◌∙◌, ◌∷◌, ◌≡◌}
 use Rattle.iox2_container.proofs.CellEntries.{same_entry}
 
 pub CalledInTurn-push : {F A R : Type 0} (calls : F → A → R → F → Type 0) (f : F) (items : List A)

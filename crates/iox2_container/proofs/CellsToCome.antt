@@ -1,6 +1,6 @@
 -- Passes over cells, as far as the cells to come, whose
 -- callbacks may be called on what stands there.
-use Rattle.iox2_container.proofs.Prelude.{AreOthers, Bool, CallbackProgression, CalledOnCell, Cell, Continue, Entry, Found, IsNextOf, List, MayCall, MayVisit, None, NoneFrom, Occupant, Option, Some, Swept, TakesCell, [], add-one, ap, arith, candidates, cell_is_of, drop, entries_from, false, if◌then◌else◌, is_of, length, map, occupant, refl, shown, slice_get, slice_set, suc, sym, take, true, zero, ℕ, ◌+◌, ◌∙◌, ◌∷◌, ◌≡◌, ◌≤◌}
+use Rattle.iox2_container.proofs.Prelude.{AreOthers, Bool, CallbackProgression, CalledOnCell, Continue, Entry, Found, IsNextOf, List, MayCall, MayVisit, None, NoneFrom, Occupant, Option, Some, Swept, TakesCell, [], add-one, ap, arith, candidates, cell_is_of, drop, entries_from, false, if◌then◌else◌, is_of, length, occupant, refl, slice_get, slice_set, suc, sym, take, true, zero, ℕ, ◌+◌, ◌∙◌, ◌∷◌, ◌≡◌, ◌≤◌}
 use Rattle.iox2_container.proofs.CallsInTurn.{details_of}
 use Rattle.iox2_container.proofs.CellEntries.{all_before}
 use Rattle.iox2_container.proofs.Counting.{few_more}

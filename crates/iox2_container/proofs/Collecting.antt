@@ -1,5 +1,5 @@
 -- Callbacks that collect what they are called on, and callbacks that answer by what they hold.
-use Rattle.iox2_container.proofs.Prelude.{Bool, CallbackProgression, CalledInTurn, CanVisit, Continue, IsTrue, List, Stop, Visit, Visits, [], ap, append-nil, append_assoc, arith, false, filter, if◌then◌else◌, inl, inr, length, map, refl, sym, true, ℕ, ◌++◌, ◌+◌, ◌<◌, ◌∙◌, ◌∷◌, ◌≡◌, ◌≤◌}
+use Rattle.iox2_container.proofs.Prelude.{Bool, CallbackProgression, CalledInTurn, CanVisit, Continue, IsTrue, List, Visit, Visits, [], ap, append-nil, append_assoc, arith, false, filter, if◌then◌else◌, inl, inr, length, map, refl, true, ℕ, ◌++◌, ◌+◌, ◌<◌, ◌∙◌, ◌∷◌, ◌≡◌, ◌≤◌}
 use Rattle.iox2_container.proofs.Callable.{CalledInTurn-keeps, CanVisit-by}
 
 -- a callback that puts what it makes of each item that

@@ -1,5 +1,5 @@
 -- Which entries stay and which leave in a recovery.
-use Rattle.iox2_container.proofs.Prelude.{filter, Bool, Entry, List, [], ap, arith, candidates, false, if◌then◌else◌, inl, inr, is_leaving, leaving, map, marks_of, not, refl, staying, sym, true, ℕ, ◌&&◌, ◌∙◌, ◌∷◌, ◌≡◌, ◌≢◌, ◌⊎◌}
+use Rattle.iox2_container.proofs.Prelude.{filter, Bool, Entry, List, [], ap, arith, candidates, false, inl, inr, is_leaving, leaving, map, marks_of, not, refl, staying, sym, true, ℕ, ◌&&◌, ◌∙◌, ◌∷◌, ◌≡◌, ◌≢◌, ◌⊎◌}
 use Rattle.iox2_container.proofs.CallsInTurn.{details_of}
 use Rattle.iox2_container.proofs.Members.{Among, DifferBy, among_less, filter_from, filter_to, other_differs, without}
 use Rattle.iox2_container.proofs.SameEntries.{passing}

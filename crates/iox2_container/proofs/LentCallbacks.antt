@@ -1,5 +1,5 @@
 -- Callbacks that are called in turn, seen through another state or with other details.
-use Rattle.iox2_container.proofs.Prelude.{Bool, CallbackProgression, CalledInTurn, ContainerState, Continue, Entry, List, RecoverStep, RecoversBy, RegistryState, ReleaseMode, ReleaseState, Stop, Visit, Visits, [], ap, arith, candidates, details_where, entry_as, filter_agree, inl, inr, length-map, map, map-id, map-map, marks_of, refl, registry_as, staying, ℕ, ◌∙◌, ◌∷◌, ◌≡◌}
+use Rattle.iox2_container.proofs.Prelude.{Bool, CallbackProgression, CalledInTurn, ContainerState, Entry, List, RecoverStep, RecoversBy, RegistryState, ReleaseMode, ReleaseState, Stop, Visit, Visits, [], ap, arith, candidates, details_where, entry_as, filter_agree, inl, inr, length-map, map, map-id, map-map, marks_of, refl, registry_as, staying, ℕ, ◌∙◌, ◌∷◌, ◌≡◌}
 use Rattle.iox2_container.proofs.Callable.{CalledInTurn-keeps}
 use Rattle.iox2_container.proofs.ListEdits.{filter-map}
 use Rattle.iox2_container.proofs.Mapped.{candidates-as, listed-as}

@@ -1,5 +1,5 @@
 -- Members of lists, and what they say of lists of entries that gain one.
-use Rattle.iox2_container.proofs.Prelude.{All, All-head, All-tail, AllPairs, Any, Bool, Contains, Entry, InsertsOne, List, [], ap, arith, cond, false, filter, inl, inr, refl, subst, suc, sym, true, zero, ℕ, ◌++◌, ◌∙◌, ◌∷◌, ◌≡◌, ◌≢◌, ◌⊎◌}
+use Rattle.iox2_container.proofs.Prelude.{All, All-head, All-tail, AllPairs, Any, Bool, Contains, Entry, InsertsOne, List, [], arith, filter, inl, inr, refl, subst, suc, sym, true, zero, ℕ, ◌++◌, ◌∷◌, ◌≡◌, ◌≢◌, ◌⊎◌}
 use Rattle.iox2_container.proofs.CellEntries.{gains_later}
 use Rattle.iox2_container.proofs.Gaining.{AllPairs-around}
 

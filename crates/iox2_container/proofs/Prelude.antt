@@ -24,7 +24,7 @@ pub use Rattle.iox2_container.specs.Changes.{Adds, Changes, RecoversBy, Removes}
 pub use Rattle.iox2_container.specs.ContainerState.{ContainerState, container, fresh}
 pub use Rattle.iox2_container.specs.FreeList.{IsFreeAt, IsFreeList, LeadsThrough, Linked, PutsFirst, TakesFirst, TakesLastFreed}
 pub use Rattle.iox2_container.specs.Handle.{Handle}
-pub use Rattle.iox2_container.specs.HeaderAndSlots.{AreRegistry, IsNewestEnd, registry_of}
+pub use Rattle.iox2_container.specs.HeaderAndSlots.{AreRegistry, registry_of}
 pub use Rattle.iox2_container.specs.Histories.{Change, ChangeStep, History, IsNew, IsRefused, Remains, TakesOut, handle_given_by, handles_given}
 pub use Rattle.iox2_container.specs.Histories.Change.{Adding, Recovering, Removing}
 pub use Rattle.iox2_container.specs.Mapped.{container_as, entry_as, registry_as}

@@ -1,5 +1,5 @@
 -- What cells show.
-use Rattle.iox2_container.proofs.Prelude.{Cell, Free, List, None, Occupant, Option, Some, ap, arith, map, map-set, refl, replicate, shown, slice_get, slice_get-map, slice_set, suc, zero, ℕ, ◌∙◌, ◌∷◌, ◌≡◌}
+use Rattle.iox2_container.proofs.Prelude.{Cell, Free, List, None, Occupant, Option, Some, ap, arith, map, map-set, refl, replicate, shown, slice_get, slice_get-map, suc, zero, ℕ, ◌∷◌, ◌≡◌}
 
 nothing_shown : {T N : Type 0} (next : N) (n : ℕ)
     → map (shown {T = T} {N = N}) (replicate n (Free next)) ≡ replicate n None

@@ -1,5 +1,5 @@
 -- What a sweep leaves.
-use Rattle.iox2_container.proofs.Prelude.{All, All-filter, All-head, All-tail, All-weaker, AreOthers, Bool, Entry, IsTrue, List, None, Occupant, Option, SlotIsOf, Some, Swept, [], add-one, ap, append-nil, arith, candidates, cell_is_of, entries_from, eq-eqb, false, filter-append, if◌then◌else◌, inl, inr, is_leaving, is_of, leb_tells, length, length-append, length-set, length-take, map, map-append, ne_eqb, not, occupant, refl, slice_get, slice_get_within, slice_set, staying, subst, suc, sym, take, true, zero, ℕ, ◌++◌, ◌+◌, ◌<◌, ◌==◌, ◌∙◌, ◌∷◌, ◌≡◌, ◌≤◌}
+use Rattle.iox2_container.proofs.Prelude.{All, All-filter, All-head, All-tail, All-weaker, AreOthers, Bool, Entry, List, None, Occupant, Option, SlotIsOf, Some, Swept, [], add-one, ap, append-nil, arith, candidates, cell_is_of, entries_from, eq-eqb, false, filter-append, if◌then◌else◌, inl, inr, is_leaving, is_of, leb_tells, length, length-append, length-set, length-take, map, map-append, ne_eqb, not, occupant, refl, slice_get, slice_get_within, slice_set, staying, subst, suc, sym, take, true, zero, ℕ, ◌++◌, ◌+◌, ◌<◌, ◌==◌, ◌∙◌, ◌∷◌, ◌≡◌, ◌≤◌}
 use Rattle.iox2_container.proofs.CallsInTurn.{CalledInTurn-push, details_of, taken_more, taken_free}
 use Rattle.iox2_container.proofs.CellEntries.{below_from}
 use Rattle.iox2_container.proofs.ListEdits.{get_set_other}

@@ -1,5 +1,5 @@
 -- Callbacks that count what they are called on.
-use Rattle.iox2_container.proofs.Prelude.{CallbackProgression, CalledInTurn, CanBeCalled, CanVisit, Continue, List, Stop, Visit, Visits, [], ap, arith, inl, inr, length, refl, ℕ, ◌+◌, ◌<◌, ◌∙◌, ◌∷◌, ◌≡◌}
+use Rattle.iox2_container.proofs.Prelude.{CallbackProgression, CalledInTurn, CanBeCalled, CanVisit, Continue, List, Visit, Visits, [], ap, arith, inl, inr, length, refl, ℕ, ◌+◌, ◌<◌, ◌∙◌, ◌∷◌, ◌≡◌}
 use Rattle.iox2_container.proofs.Callable.{CalledInTurn-keeps, CanBeCalled-by, CanVisit-by}
 
 -- a callback that counts one more at each call, and may be called while the count is below a bound

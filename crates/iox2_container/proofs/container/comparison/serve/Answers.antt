@@ -1,4 +1,4 @@
-use Rattle.iox2_container.proofs.Prelude.{arith, refl}
+use Rattle.iox2_container.proofs.Prelude.{refl}
 use Rattle.iox2_container.proofs.container.comparison.serve.Goals as goal
 
 pub returns-in_ok-entries-in-List-clause-step : goal.returns-in_ok-entries-in-List-clause-step

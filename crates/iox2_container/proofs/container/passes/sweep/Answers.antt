@@ -1,4 +1,4 @@
-use Rattle.iox2_container.proofs.Prelude.{CalledAt, TakesAt, arith, false, if◌then◌else◌, is_of, map, occupant, refl, shown, ◌+◌, ◌≡◌}
+use Rattle.iox2_container.proofs.Prelude.{arith, false, if◌then◌else◌, occupant, refl, ◌+◌, ◌≡◌}
 use Rattle.iox2_container.proofs.CellsToCome.{sweep_ends, sweep_next, sweep_past, takes_next}
 use Rattle.iox2_container.proofs.container.passes.sweep.Goals as goal
 use Rattle.iox2_container.proofs.container.passes.sweep.Goals.{then-sweep_found, else-sweep_found}

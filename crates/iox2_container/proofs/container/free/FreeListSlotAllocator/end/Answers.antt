@@ -1,4 +1,3 @@
-use Rattle.iox2_container.proofs.Prelude.{arith}
 use Rattle.iox2_container.proofs.FreeList.{taken_at}
 use Rattle.iox2_container.proofs.container.free.FreeListSlotAllocator.end.Goals as goal
 
