@@ -26,7 +26,13 @@ pub threads_kept : {T : Type 0} (cells : List (Linked T)) (head : Option ℕ) (f
     → LeadsThrough cells head free → LeadsThrough (slice_set cells slot cell) head free
 threads_kept cells None [] slot cell o t = t
 threads_kept cells (Some head) (s ∷ slots) slot cell o t =
-    grind (arith, All-head, All-tail, get_set_other, threads_kept cells t.2.0 slots slot cell (All-tail (λ other. other ≢ slot) s slots o) t.2.2)
+    grind (
+      arith,
+      get_set_other,
+      All-head,
+      All-tail,
+      threads_kept cells t.2.0 slots slot cell (All-tail (λ other. other ≢ slot) s slots o) t.2.2,
+    )
 threads_kept cells head free slot cell o t = absurd t
 
 -- a slot is put before the list

@@ -1,5 +1,5 @@
 -- The handles that a registry gave: what it knows of them while it is called.
-use Rattle.iox2_container.proofs.Prelude.{AllZip, AddStep, Adding, CallStep, ContainerAddFailure, ContainerRemoveError, ContainerState, Enters, Entry, Err, Handle, IsRegistry, List, None, Ok, Option, RegistryCall, RegistryReply, RegistryState, ReleaseMode, ReleaseState, RemoveGiven, Result, Some, [], ap, arith, handle_given, handle_in, handle_of, inl, inr, is_of, reply_of_add, reply_of_remove, suc, zero, ℕ, ⊤, ◌++◌, ◌<◌, ◌∙◌, ◌∷◌, ◌≡◌}
+use Rattle.iox2_container.proofs.Prelude.{AllZip, AddStep, Adding, CallStep, ContainerState, Enters, Entry, Handle, IsRegistry, List, None, Ok, Option, RegistryCall, RegistryReply, RegistryState, ReleaseMode, RemoveGiven, Some, [], ap, arith, handle_given, handle_in, handle_of, inl, inr, is_of, suc, zero, ℕ, ⊤, ◌<◌, ◌∙◌, ◌∷◌, ◌≡◌}
 use Rattle.iox2_container.specs.declared.container.comparison.calls.RegistryCall.TheVariants as Call
 use Rattle.iox2_container.specs.declared.container.comparison.calls.RegistryReply.TheVariants as Reply
 use Rattle.iox2_container.proofs.Members.{Among, of_all}
@@ -50,8 +50,7 @@ module _ {T : Type 0} (node number : T → ℕ) (old : ContainerState T)
   grows_given : (given : Option Handle) (mode : ReleaseMode) → RemoveGiven old given mode reply new
       → Grows old.registry new.registry
   grows_given None mode s = grows_same old.registry new.registry (ap (λ c. c.registry) s.1)
-  grows_given (Some handle) mode s =
-      grows_remove old.registry handle mode s.result new.registry s.step.step
+  grows_given (Some handle) mode s = grind (arith, grows_remove)
 
   pub grows_call : (call : RegistryCall T) → CallStep node number old earlier call reply new
       → Grows old.registry new.registry

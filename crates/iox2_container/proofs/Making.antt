@@ -1,5 +1,5 @@
 -- New containers.
-use Rattle.iox2_container.proofs.Prelude.{◌+◌, All-nil, AreRegistry, Cell, Entry, Free, List, Occupant, Option, RegistryHeader, Role, ap, arith, container, false, fresh, length, length-replicate, map, refl, registry_of, replicate, shown, sym, ℕ, ◌≡◌}
+use Rattle.iox2_container.proofs.Prelude.{◌+◌, All-nil, AreRegistry, Cell, Entry, Free, List, Occupant, Option, RegistryHeader, Role, ap, container, false, fresh, length, length-replicate, map, refl, registry_of, replicate, shown, sym, ℕ, ◌≡◌}
 use Rattle.iox2_container.proofs.CellEntries.{nothing_stands}
 use Rattle.iox2_container.proofs.Keeping.{new_is_registry}
 use Rattle.iox2_container.proofs.ShownCells.{nothing_shown_yet}

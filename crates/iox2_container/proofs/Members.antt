@@ -71,8 +71,10 @@ pub record Without {T : Type 0} (es : List (Entry T)) (x : Entry T) : Type 0 whe
 
 pub without : {T : Type 0} (es : List (Entry T)) (x : Entry T) → Among x es → Without es x
 without [] x h = absurd h
-without (e ∷ es) x (inl p) =
-    record { rest = es; gains = record { before = []; after = es; old_is = refl; new_is = rw p refl } }
+without (e ∷ es) x (inl p) = record {
+  rest = es;
+  gains = record { before = []; after = es; old_is = refl; new_is = rw p refl };
+}
 without (e ∷ es) x (inr h) =
     let w = without es x h in
     record { rest = e ∷ w.rest; gains = gains_later w.rest es x e w.gains }

@@ -1,5 +1,5 @@
--- The words that proofs of this crate are made of: std's, and the definitions of this crate with the
--- types that they are of.
+-- The words that proofs of this crate are made of: those of std, and the definitions of this crate
+-- with the types that they are of.
 pub use Rattle.std.proofs.Common.{[], ◌++◌, ◌+◌, ◌-◌, ◌<◌, ◌↔◌, ◌∙◌, ◌∷◌, ◌≡◌, ◌≢◌, ◌≤◌, ◌⊎◌, Any, Bool, Contains, Err, IsTrue, List, None, Ok, Option, Result, Some, ℕ, add-one, ap, arith, cond, count_by, drop, false, get_or, inl, inr, length, length-append, map, refl, replicate, rules, subst, suc, sym, take, true, zero}
 pub use Rattle.std.proofs.Math.Dec.{eqb}
 pub use Rattle.std.proofs.Math.ListN.{length-set}

@@ -1,5 +1,5 @@
 -- What a recovery does.
-use Rattle.iox2_container.proofs.Prelude.{All-filter, AllPairs-filter, AreRegistry, Bool, ContainerState, Default, IsRegistry, List, LockIfLastIndex, Occupant, Option, RecoversBy, RegistryHeader, ReleaseMode, Swept, [], arith, entries_from, false, length, lock_after, refl, registry_of, release_state, ℕ, ◌+◌, ◌-◌, ◌<◌, ◌≡◌, ◌≢◌}
+use Rattle.iox2_container.proofs.Prelude.{All-filter, AllPairs-filter, AreRegistry, Bool, ContainerState, Default, IsRegistry, List, LockIfLastIndex, Occupant, Option, RecoversBy, RegistryHeader, ReleaseMode, Swept, [], arith, entries_from, false, length, lock_after, refl, release_state, ℕ, ◌+◌, ◌-◌, ◌<◌, ◌≡◌, ◌≢◌}
 use Rattle.iox2_container.proofs.CellEntries.{slots_from, below_from}
 use Rattle.iox2_container.proofs.Removing.{left_by, left_empty}
 

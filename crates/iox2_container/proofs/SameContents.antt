@@ -1,5 +1,5 @@
 -- Two registries under the same calls.
-use Rattle.iox2_container.proofs.Prelude.{AddStep, All, AllZip, AllZip-push, Bool, CallRun, CallStep, ContainerAddFailure, ContainerRemoveError, ContainerState, Enters, Entry, Err, Handle, HasRoom, IsFull, IsLocked, IsNew, IsPermutation, IsRegistry, Leaves, List, None, Ok, Option, OutOfSpace, RecoverStep, RegistryCall, RegistryReply, RegistryState, ReleaseMode, ReleaseState, RemoveGiven, RemoveStep, Result, SameKind, SameReply, Some, [], ap, arith, handle_given, handle_of, inl, inr, is_of, is_outside, length, length-map, length_permutation, listed, lock_after, not, refl, release_state, reply_of_add, reply_of_remove, suc, sym, zero, ℕ, ⊤, ◌&&◌, ◌++◌, ◌+◌, ◌∙◌, ◌∷◌, ◌≡◌, ◌≢◌}
+use Rattle.iox2_container.proofs.Prelude.{AddStep, All, AllZip-push, Bool, CallRun, CallStep, ContainerAddFailure, ContainerRemoveError, ContainerState, Enters, Entry, Err, Handle, HasRoom, IsFull, IsLocked, IsNew, IsPermutation, IsRegistry, Leaves, List, None, Ok, Option, OutOfSpace, RecoverStep, RegistryCall, RegistryReply, RegistryState, ReleaseMode, ReleaseState, RemoveGiven, RemoveStep, Result, SameKind, SameReply, Some, [], ap, arith, handle_given, handle_of, inl, inr, is_of, is_outside, length, length-map, length_permutation, listed, lock_after, not, refl, release_state, reply_of_add, reply_of_remove, sym, ℕ, ◌&&◌, ◌++◌, ◌+◌, ◌∙◌, ◌∷◌, ◌≡◌, ◌≢◌}
 use Rattle.iox2_container.specs.declared.container.comparison.calls.RegistryCall.TheVariants as Call
 use Rattle.iox2_container.specs.declared.container.comparison.calls.RegistryReply.TheVariants as Reply
 use Rattle.iox2_container.proofs.Collecting.{answers_by}
@@ -77,10 +77,8 @@ module _ {T : Type 0} {a b a' b' : RegistryState T} (l : SameContents a b) (v : 
     (w : IsRegistry b') where
   add_same : (d : T) (r s : Result Handle ContainerAddFailure) → AddStep a d r a'
       → AddStep b d s b' → Outcome a' b' (reply_of_add r) (reply_of_add s)
-  add_same d (Err IsLocked) (Err IsLocked) p q =
-      record { same = refl; alike = rw (p.1, q.1) l; handles = tt }
-  add_same d (Err OutOfSpace) (Err OutOfSpace) p q =
-      record { same = refl; alike = rw (p.2, q.2) l; handles = tt }
+  add_same d (Err IsLocked) (Err IsLocked) p q = grind arith
+  add_same d (Err OutOfSpace) (Err OutOfSpace) p q = grind arith
   add_same d (Err OutOfSpace) (Ok k) p q = absurd (no_room l p.1 q.1)
   add_same d (Ok h) (Err OutOfSpace) p q = absurd (no_room (turned l) q.1 p.1)
   add_same d (Ok h) (Ok k) p q =
@@ -127,8 +125,7 @@ module _ {T : Type 0} {a b a' b' : RegistryState T} (l : SameContents a b) (v : 
     remove_same : (h k : Handle) (r s : Result ReleaseState ContainerRemoveError)
         → KnowBoth a b (Some h) (Some k) → RemoveStep a h mode r a' → RemoveStep b k mode s b'
         → Outcome a' b' (reply_of_remove r) (reply_of_remove s)
-    remove_same h k (Err f) (Err f') e p q =
-        record { same = refl; alike = rw (p.1, q.1) l; handles = tt }
+    remove_same h k (Err f) (Err f') e p q = grind arith
     remove_same h k (Ok t) (Err f') e p q =
         absurd (one_removes l a' mode h k e.0 e.2 p.0 q.0)
     remove_same h k (Err f) (Ok u) e p q =
@@ -162,14 +159,12 @@ module _ {T : Type 0} (a b a' b' : ContainerState T) (l : SameContents a.registr
   outcome_still : (r r' s s' : RegistryReply T) → r ≡ r' → s ≡ s' → a' ≡ a → b' ≡ b
       → SameReply r' s' → KnowBoth a.registry b.registry (given_by r') (given_by s')
       → Outcome a'.registry b'.registry r s
-  outcome_still r r' s s' e f ea eb same k =
-      rw (e, f, ea, eb) (record { same = same; alike = l; handles = k })
+  outcome_still r r' s s' e f ea eb same k = grind arith
 
   given_same : (mode : ReleaseMode) (one other : Option Handle) (r s : RegistryReply T)
       → KnowBoth a.registry b.registry one other → RemoveGiven a one mode r a'
       → RemoveGiven b other mode s b' → Outcome a'.registry b'.registry r s
-  given_same mode None None r s k p q =
-      outcome_still r Reply.NoHandle s Reply.NoHandle p.0 q.0 p.1 q.1 refl tt
+  given_same mode None None r s k p q = grind (arith, outcome_still)
   given_same mode (Some h) (Some i) r s k p q =
       rw (p.reply_is, q.reply_is)
       (remove_same l v w mode h i p.result q.result k p.step.step q.step.step)
@@ -189,13 +184,8 @@ module _ {T : Type 0} (a b a' b' : ContainerState T) (l : SameContents a.registr
       rw (p.reply_is, q.reply_is)
       (recover_same l v w mode (is_of node dead) (is_outside number keys.items) p.result q.result
       p.step.step q.step.step)
-  call_same node number xs ys Call.List r s k p q =
-      outcome_still r (Reply.Entries p.result) s (Reply.Entries q.result) p.reply_is q.reply_is
-      p.step.1 q.step.1
-      (rw (p.step.0, q.step.0) (same_listed l.one l.other l.there l.back)) tt
-  call_same node number xs ys Call.Len r s k p q =
-      outcome_still r (Reply.Count (length a.registry.entries)) s
-      (Reply.Count (length b.registry.entries)) p.0 q.0 p.1 q.1 (ap Reply.Count (as_long l)) tt
+  call_same node number xs ys Call.List r s k p q = grind (arith, same_listed, outcome_still)
+  call_same node number xs ys Call.Len r s k p q = grind (arith, as_long, outcome_still)
 
 run_same : {T : Type 0} (node number : T → ℕ) (a b a' b' : ContainerState T)
     (xs ys : List (RegistryReply T)) (calls : List (RegistryCall T))

@@ -3,9 +3,8 @@ use Rattle.iox2_container.proofs.Prelude.{rules}
 use denote.RattleType.{RattleType}
 use denote.Enum.Declared as enum
 use denote.Enum.Enum.{Enum}
-use denote.Struct.Field.{row_field, u64-field}
-use denote.Param.Send.{IsSend, enum_send, owning_send, recorded_send, sendable, view_send}
-use denote.Param.SendFields.{as_row_send, declared_send}
+use denote.Struct.Field.{u64-field}
+use denote.Param.Send.{IsSend, enum_send, owning_send, recorded_send, sendable}
 use Rattle.std.proofs.Crossing.{crosses}
 use Rattle.std.specs.contracts.option.Option as Option
 use Rattle.std.specs.contracts.prelude.OptionDebug.TheImpl as OptionDebug
@@ -44,17 +43,10 @@ module _ (T N : RattleType) where
 module _ (T S N : RattleType) (slots : SlotAllocatorGhosts S.Denot T.Denot N.Denot)
     (debug : DebugGhosts N.Denot) where
   inside_send : IsSend T → IsSend S → IsSend N → IsSend (Inside.the_row T S N slots debug)
-  inside_send t s n =
-      declared_send (Inside.the_type T S N slots debug) (
-        search sendable depth 20,
-        (EntrySlots-send T N t n, (as_row_send (row_field S) s, (search sendable, tt))),
-      )
+  inside_send t s n = search (crosses, sendable, EntrySlots-send) depth 30
 
   pub SlotMap-send : IsSend T → IsSend S → IsSend N → IsSend (SlotMap.the_row T S N slots debug)
-  SlotMap-send t s n =
-      view_send (SlotMapInside.the_row T S N slots debug) _ _ _ _
-      (declared_send (SlotMapInside.the_type T S N slots debug)
-      (view_send (Inside.the_row T S N slots debug) _ _ _ _ (inside_send t s n), tt))
+  SlotMap-send t s n = search (crosses, sendable, inside_send) depth 30
 
 -- that of a free list
 pub ListContainer-send : (T : RattleType) (clone : CloneGhosts T.Denot) → IsSend T

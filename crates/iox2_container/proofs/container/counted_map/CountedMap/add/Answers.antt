@@ -1,4 +1,4 @@
-use Rattle.iox2_container.proofs.Prelude.{arith, length-map, map, shown}
+use Rattle.iox2_container.proofs.Prelude.{arith, length-map, shown}
 use Rattle.iox2_container.proofs.Adding.{kept_write, add_step}
 use Rattle.iox2_container.proofs.container.counted_map.CountedMap.add.Goals as goal
 
