@@ -29,14 +29,8 @@ module _ (d : MessageTypeDetails) (n header : ℕ) (given : HaveAlignments d) wh
       → o.payload.alignment ∣ d.payload.size
       → (i : ℕ) → i < n → IsAligned (element d o header i)
       × Within (payload_part d o header n) (element d o header i)
-  element_holds o payload whole i below = grind (
-    arith,
-    mul-le-mul_right,
-    least_multiple-dvd,
-    dvd-add,
-    dvd_trans,
-    dvd-mul_left_of_dvd,
-  )
+  element_holds o payload whole i below =
+      grind (arith, dvd_trans, dvd-add, dvd-mul_left_of_dvd, mul-le-mul_right, least_multiple-dvd)
 
 -- the alignments are those that details can have
 pub record AreAlignments (d : MessageTypeDetails) : Type 0 where

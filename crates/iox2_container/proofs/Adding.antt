@@ -1,6 +1,5 @@
 -- What an add does.
-use Rattle.iox2_container.proofs.Prelude.{◌+◌, ◌<◌, ◌∙◌, ◌≡◌, ◌≢◌, ◌≤◌, All, All-weaker, List, None, Ok, Option, Some, ℕ, ap, arith, false, length, length-map, length-set, map, refl, slice_get, slice_get_within, slice_set}
-use Rattle.iox2_container.specs.Prelude.{AddStep, AreRegistry, Cell, Entry, InsertsOne, IsNewestEnd, Occupant, RegistryHeader, entries_from, occupant, registry_of, shown}
+use Rattle.iox2_container.proofs.Prelude.{AddStep, All, All-weaker, AreRegistry, Cell, Entry, InsertsOne, List, None, Occupant, Ok, Option, RegistryHeader, Some, ap, arith, entries_from, false, length, length-map, length-set, map, occupant, refl, registry_of, shown, slice_get, slice_get_within, slice_set, ℕ, ◌+◌, ◌<◌, ◌∙◌, ◌≡◌, ◌≢◌, ◌≤◌}
 use Rattle.iox2_container.proofs.CellEntries.{gains_write, slots_from, below_from, shown_from, room_from}
 use Rattle.iox2_container.proofs.Gaining.{length-InsertsOne}
 use Rattle.iox2_container.proofs.Keeping.{All-gain, kept_add}
@@ -19,22 +18,30 @@ free_everywhere : {T : Type 0} (cells : List (Option (Occupant T))) (slot : ℕ)
 free_everywhere {T} cells slot free = grind (arith, All-weaker, shown_from)
 
 -- an entry goes into a free slot
-module _ {T : Type 0} (a : RegistryHeader) (cells s : List (Option (Occupant T))) (slot : ℕ) (d : T)
-    (k : AreRegistry a cells) (free : slice_get cells slot ≡ Some None)
+module _ {T : Type 0} {a : RegistryHeader} {cells s : List (Option (Occupant T))} {newest_end : ℕ}
+    (slot : ℕ) (d : T) (k : AreRegistry a cells newest_end)
+    (free : slice_get cells slot ≡ Some None)
     (e : s ≡ slice_set cells slot (Some (occupant a.used d))) (unlocked : a.locked ≡ false)
     (room : a.used < a.budget) where
-  gains : InsertsOne (entries_from 0 cells) (entries_from 0 s)
-      (record { slot = slot; ticket = a.used; details = d })
-  gains = rw e (gains_write 0 cells slot
-      (record { slot = slot; ticket = a.used; details = d }) free (omega arith))
+  abbrev added : Entry T
+  added = record { slot = slot; ticket = a.used; details = d }
 
-  pub kept_write : AreRegistry (record a { count = a.count + 1; used = a.used + 1 }) s
-  kept_write = (
-    kept_add (registry_of a cells) (length s) (entries_from 0 s)
-        (record { slot = slot; ticket = a.used; details = d }) k.0 gains unlocked room refl
-        (slots_from 0 s) (below_from s),
-    omega (arith, k.1, length-InsertsOne _ _ _ gains),
-  )
+  gains : InsertsOne (entries_from 0 cells) (entries_from 0 s) added
+  gains = rw e (gains_write 0 cells slot added free (omega arith))
+
+  pub kept_write : AreRegistry (record a { count = a.count + 1; used = a.used + 1 }) s (slot + 1)
+  kept_write = record {
+    registry = kept_add (registry_of a cells) (length s) (entries_from 0 s) added k.registry gains
+        unlocked room refl (slots_from 0 s) (below_from s);
+    counted = omega (arith, k.counted, length-InsertsOne _ _ _ gains);
+    newest =
+        All-gain (λ v. v.ticket + 1 ≡ a.used + 1 → slot + 1 ≡ v.slot + 1) (entries_from 0 cells)
+        (entries_from 0 s) added gains
+        (All-weaker (λ (v : Entry T). v.ticket < a.used)
+        (λ (v : Entry T). v.ticket + 1 ≡ a.used + 1 → slot + 1 ≡ v.slot + 1)
+        (λ v l is. absurd (omega (arith, l, is))) (entries_from 0 cells) k.registry.tickets_used)
+        (λ is. refl);
+  }
 
   pub add_step : AddStep (registry_of a cells) d
       (Ok (record { service = a.service; role = a.role; slot = slot; ticket = a.used }))
@@ -45,14 +52,3 @@ module _ {T : Type 0} (a : RegistryHeader) (cells s : List (Option (Occupant T))
         (omega (arith, same, room_from 0 s, length-InsertsOne _ _ _ gains), room),
         (refl, free_everywhere cells slot free, gains, rw same refl),
       )
-
-  -- the end is behind it
-  pub newest_write : IsNewestEnd
-      (registry_of (record a { count = a.count + 1; used = a.used + 1 }) s) (slot + 1)
-  newest_write =
-      All-gain (λ e. e.ticket + 1 ≡ a.used + 1 → slot + 1 ≡ e.slot + 1) (entries_from 0 cells)
-      (entries_from 0 s) (record { slot = slot; ticket = a.used; details = d }) gains
-      (All-weaker (λ (e : Entry T). e.ticket < a.used)
-      (λ (e : Entry T). e.ticket + 1 ≡ a.used + 1 → slot + 1 ≡ e.slot + 1)
-      (λ e l is. absurd (omega (arith, l, is))) (entries_from 0 cells) k.0.tickets_used)
-      (λ is. refl)

@@ -1,7 +1,5 @@
 -- Replies that agree, by any `==` of their details.
-use Rattle.std.proofs.Common.{rules, arith}
-use Rattle.iox2_container.proofs.Prelude.{[], ◌↔◌, ◌∙◌, ◌∷◌, ◌≡◌, AllZip, Bool, IsPermutation, IsTrue, List, count_by, eq-eqb, eqb, eqb-true, length, length_permutation, list_all, sum_by-IsPermutation, sym}
-use Rattle.iox2_container.specs.Prelude.{AgreesBy, EquallyMany, RegistryReply, SameKind, SameReply}
+use Rattle.iox2_container.proofs.Prelude.{AgreesBy, AllZip, Bool, EquallyMany, IsPermutation, IsTrue, List, RegistryReply, SameKind, SameReply, [], arith, count_by, eq-eqb, eqb, eqb-true, length, length_permutation, list_all, rules, sum_by-IsPermutation, sym, ◌↔◌, ◌∙◌, ◌∷◌, ◌≡◌}
 use Rattle.std.proofs.lemmas.List.Sums.{AllPass-from_list_all, list_all-from_AllPass}
 use Rattle.iox2_container.specs.declared.container.comparison.calls.RegistryReply.TheVariants as Reply
 

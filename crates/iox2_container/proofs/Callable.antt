@@ -1,6 +1,5 @@
 -- Callbacks that may be called on items in turn.
-use Rattle.iox2_container.proofs.Prelude.{[], ◌++◌, ◌∷◌, Called, CalledAt, List, Mut, Takes, TakesAt, map, refl}
-use Rattle.iox2_container.specs.Prelude.{CalledInTurn, CallbackProgression, CanBeCalled, CanVisit, Continue, MayCall, MayVisit, Visit}
+use Rattle.iox2_container.proofs.Prelude.{CallbackProgression, Called, CalledAt, CalledInTurn, CanBeCalled, CanVisit, Continue, List, MayCall, MayVisit, Mut, Takes, TakesAt, Visit, [], map, refl, ◌++◌, ◌∷◌}
 use denote.Ref.{Bor}
 use denote.Param.Always.{always_mut, mut_next}
 use Rattle.iox2_texts.proofs.Callable.{takes_always, next_always, always_after_visits}

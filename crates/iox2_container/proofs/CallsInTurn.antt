@@ -1,6 +1,5 @@
 -- Callbacks that are called in turn.
-use Rattle.iox2_container.proofs.Prelude.{[], ◌++◌, ◌+◌, ◌∙◌, ◌∷◌, ◌≡◌, List, None, Option, Some, ℕ, ap, append-nil, append_assoc, arith, inl, inr, map, map-append, refl, slice_get, suc, sym, take, zero}
-use Rattle.iox2_container.specs.Prelude.{CalledInTurn, CalledOnCell, CallbackProgression, Continue, Entry, Occupant, Stop, Visit, Visits, entries_from, occupant}
+use Rattle.iox2_container.proofs.Prelude.{CallbackProgression, CalledInTurn, CalledOnCell, Continue, Entry, List, None, Occupant, Option, Some, Stop, Visit, Visits, [], ap, append-nil, append_assoc, arith, entries_from, inl, inr, map, map-append, occupant, refl, slice_get, suc, take, zero, ℕ, ◌++◌, ◌+◌, ◌∙◌, ◌∷◌, ◌≡◌}
 use Rattle.iox2_container.proofs.CellEntries.{same_entry}
 
 pub CalledInTurn-push : {F A R : Type 0} (calls : F → A → R → F → Type 0) (f : F) (items : List A)
@@ -29,11 +28,9 @@ pub taken_more : {T : Type 0} (low i : ℕ) (cells : List (Option (Occupant T)))
     → entries_from low (take (suc i) cells) ≡ entries_from low (take i cells) ++ x ∷ []
 taken_more low i [] x h s = (cc)
 taken_more low zero (None ∷ cells) x h s = (cc)
-taken_more {T} low zero (Some o ∷ cells) x h s =
-    ap (λ (y : Entry T). y ∷ []) (same_entry low o x (omega arith) h)
+taken_more {T} low zero (Some o ∷ cells) x h s = grind (arith, same_entry)
 taken_more low (suc i) (None ∷ cells) x h s = taken_more (low + 1) i cells x h (omega arith)
-taken_more low (suc i) (Some o ∷ cells) x h s =
-    rw (taken_more (low + 1) i cells x h (omega arith)) refl
+taken_more low (suc i) (Some o ∷ cells) x h s = grind (arith, taken_more (low + 1) i cells)
 
 pub taken_free : {T : Type 0} (low i : ℕ) (cells : List (Option (Occupant T)))
     → slice_get cells i ≡ Some None
@@ -82,8 +79,7 @@ pub stops : {F T : Type 0} (calls : F → T → CallbackProgression → F → Ty
     → CalledOnCell calls g cell answer h → answer ≡ Stop
     → GoesOn calls f (details_of (entries_from 0 (take i cells))) g
     → Visit calls f (details_of (entries_from 0 cells)) h
-stops {F} {T} calls f g h cells i None answer is a c w =
-    (let e : Continue ≡ Stop = sym a.0 ∙ c in cc)
+stops {F} {T} calls f g h cells i None answer is a c w = grind arith
 stops {F} {T} calls f g h cells i (Some o) answer is a c w =
     let split = entries_split 0 (suc i) cells in
     let seen : List T = details_of (entries_from 0 (take i cells)) in

@@ -1,6 +1,5 @@
 -- The entries that stand in cells.
-use Rattle.iox2_container.proofs.Prelude.{[], ◌+◌, ◌<◌, ◌∙◌, ◌∷◌, ◌≡◌, ◌≢◌, ◌≤◌, All, All-cons, All-nil, All-weaker, AllPairs, AllPairs-cons, List, None, Option, Some, ℕ, ap, arith, get_or_from_slice_get, length, refl, replicate, set-get_or, set-set, slice_get, slice_get_within, slice_set, suc, sym, take, zero}
-use Rattle.iox2_container.specs.Prelude.{Entry, InsertsOne, NoneFrom, Occupant, entries_from, occupant}
+use Rattle.iox2_container.proofs.Prelude.{All, All-cons, All-nil, All-weaker, AllPairs, AllPairs-cons, Entry, InsertsOne, List, None, NoneFrom, Occupant, Option, Some, [], ap, arith, entries_from, get_or_from_slice_get, length, occupant, refl, replicate, set-get_or, set-set, slice_get, slice_get_within, slice_set, suc, sym, take, zero, ℕ, ◌+◌, ◌<◌, ◌∙◌, ◌∷◌, ◌≡◌, ◌≢◌, ◌≤◌}
 use Rattle.iox2_container.proofs.ListEdits.{get_set_same}
 
 -- the entry is that of a cell
@@ -19,13 +18,9 @@ stand_later low c cells =
 pub entries_stand : {T : Type 0} (low : ℕ) (cells : List (Option (Occupant T)))
     → All (HasEntry low cells) (entries_from low cells)
 entries_stand {T} low [] = All-nil (HasEntry low ([]))
-entries_stand low (None ∷ cells) =
-    stand_later low None cells (entries_from (low + 1) cells) (entries_stand (low + 1) cells)
+entries_stand low (None ∷ cells) = grind (arith, stand_later, entries_stand (low + 1) cells)
 entries_stand low (Some o ∷ cells) =
-    All-cons (HasEntry low (Some o ∷ cells))
-    (record { slot = low; ticket = o.ticket; details = o.details }) (entries_from (low + 1) cells)
-    (record { at = zero; slot_is = omega arith; cell_is = refl })
-    (stand_later low (Some o) cells (entries_from (low + 1) cells) (entries_stand (low + 1) cells))
+    grind (arith, All-cons, stand_later, entries_stand (low + 1) cells)
 
 pub slots_from : {T : Type 0} (low : ℕ) (cells : List (Option (Occupant T)))
     → AllPairs (λ (v w : Entry T). v.slot < w.slot) (entries_from low cells)

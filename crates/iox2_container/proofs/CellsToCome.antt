@@ -1,7 +1,6 @@
 -- Passes over cells, as far as the cells to come, whose
 -- callbacks may be called on what stands there.
-use Rattle.iox2_container.proofs.Prelude.{[], ◌+◌, ◌∙◌, ◌∷◌, ◌≡◌, ◌≤◌, Bool, List, None, Option, Some, ℕ, add-one, ap, arith, drop, false, if◌then◌else◌, length, map, refl, slice_get, slice_set, suc, sym, take, true, zero}
-use Rattle.iox2_container.specs.Prelude.{AreOthers, CalledOnCell, CallbackProgression, Cell, Continue, Entry, Found, IsNextOf, MayCall, MayVisit, NoneFrom, Occupant, Swept, TakesCell, candidates, cell_is_of, entries_from, is_of, occupant, shown}
+use Rattle.iox2_container.proofs.Prelude.{AreOthers, Bool, CallbackProgression, CalledOnCell, Continue, Entry, Found, IsNextOf, List, MayCall, MayVisit, None, NoneFrom, Occupant, Option, Some, Swept, TakesCell, [], add-one, ap, arith, candidates, cell_is_of, drop, entries_from, false, if◌then◌else◌, is_of, length, occupant, refl, slice_get, slice_set, suc, sym, take, true, zero, ℕ, ◌+◌, ◌∙◌, ◌∷◌, ◌≡◌, ◌≤◌}
 use Rattle.iox2_container.proofs.CallsInTurn.{details_of}
 use Rattle.iox2_container.proofs.CellEntries.{all_before}
 use Rattle.iox2_container.proofs.Counting.{few_more}
@@ -63,28 +62,28 @@ pub record HasSwept {F T : Type 0} (takes : F → T → Type 0) (calls : F → T
   pub few : gone ≤ i
 
 -- slots where no entry of the node stands are passed over
-pub sweep_past : {F T : Type 0} (takes : F → T → Type 0) (calls : F → T → Bool → F → Type 0)
-    (node : T → ℕ) (id : ℕ) (f g : F) (cs m : List (Option (Occupant T))) (i j gone : ℕ) → i ≤ j
-    → AreOthers node id m i j → HasSwept takes calls (is_of node id) f cs i g m gone
+pub sweep_past : {F T : Type 0} {takes : F → T → Type 0} {calls : F → T → Bool → F → Type 0}
+    {f g : F} {cs m : List (Option (Occupant T))} {i gone : ℕ} (node : T → ℕ) (id j : ℕ)
+    → HasSwept takes calls (is_of node id) f cs i g m gone → i ≤ j → AreOthers node id m i j
     → HasSwept takes calls (is_of node id) f cs j g m gone
-sweep_past takes calls node id f g cs m i j gone l others =
+sweep_past {takes = takes} {calls = calls} {f = f} {g = g} {cs = cs} {m = m} {i = i} {gone = gone}
+    node id j swept l others =
     over_others node id m (λ k. HasSwept takes calls (is_of node id) f cs k g m gone) i j l others
     (λ k h o w. let is = sym (w.later k (omega arith)) ∙ o.1 in record {
       callable = rw (candidate_past node id cs k o.0 is o.2) at w.callable;
-      swept = rw (add-one k) (past_cell calls node id f g cs m k gone w.swept o.0 is o.1 o.2);
+      swept = rw (add-one k) (past_cell node id cs m k w.swept o.0 is o.1 o.2);
       later = λ n n_later. w.later n (omega arith);
       len = w.len;
       few = omega (arith, w.few);
-    })
+    }) swept
 
 -- the next entry of the node, after slots that are passed over
-module _ {F T N : Type 0} (takes : F → T → Type 0) (calls : F → T → Bool → F → Type 0)
-    (node : T → ℕ) (id : ℕ) (f g : F) (cs : List (Option (Occupant T))) (a : List (Cell T N))
-    (i end gone : ℕ) (found : Found T) (next : IsNextOf node id (map shown a) i end found)
-    (w : HasSwept takes calls (is_of node id) f cs i g (map shown a) gone) where
-  so_far : HasSwept takes calls (is_of node id) f cs found.slot g (map shown a) gone
-  so_far = sweep_past takes calls node id f g cs (map shown a) i found.slot gone next.order
-      next.others w
+module _ {F T : Type 0} {takes : F → T → Type 0} {calls : F → T → Bool → F → Type 0}
+    {node : T → ℕ} {id : ℕ} {f g : F} {cs m : List (Option (Occupant T))} {i end gone : ℕ}
+    {found : Found T} (next : IsNextOf node id m i end found)
+    (w : HasSwept takes calls (is_of node id) f cs i g m gone) where
+  so_far : HasSwept takes calls (is_of node id) f cs found.slot g m gone
+  so_far = sweep_past node id found.slot w next.order next.others
 
   stands : slice_get cs found.slot ≡ Some (Some (occupant next.here.1.0 found.details))
   stands = sym (so_far.later found.slot (omega arith)) ∙ next.here.1.1
@@ -98,30 +97,28 @@ module _ {F T N : Type 0} (takes : F → T → Type 0) (calls : F → T → Bool
   takes_next = may_call.0
 
   -- it is swept
-  pub sweep_next : (b n : List (Cell T N)) (h : F) (gone' : ℕ) (goes : Bool) → b ≡ a
-      → calls g found.details goes h
-      → map shown n ≡ (if goes then slice_set (map shown b) found.slot None else map shown b)
-      → gone' ≡ gone + (if goes then 1 else 0)
-      → HasSwept takes calls (is_of node id) f cs (found.slot + 1) h (map shown n) gone'
-  sweep_next b n h gone' goes b_is called n_is gone_is =
+  pub sweep_next : (n : List (Option (Occupant T))) (h : F) (left : ℕ) (goes : Bool)
+      → calls g found.details goes h → n ≡ (if goes then slice_set m found.slot None else m)
+      → left ≡ gone + (if goes then 1 else 0)
+      → HasSwept takes calls (is_of node id) f cs (found.slot + 1) h n left
+  sweep_next n h left goes called n_is gone_is =
       let x : Entry T =
       record { slot = found.slot; ticket = next.here.1.0; details = found.details } in
-      let left = rw b_is at n_is in
       record {
         callable = may_call.1 goes h called;
-        swept = rw (add-one found.slot, left, gone_is)
-            (found_cell calls node id f g cs (map shown a) found.slot gone so_far.swept h goes x
-            refl stands next.here.1.1 next.here.0 called);
-        later = later_kept cs (map shown a) (map shown n) found.slot goes left so_far.later;
-        len = length_kept (map shown a) (map shown n) found.slot goes left ∙ so_far.len;
-        few = few_more gone gone' found.slot goes gone_is so_far.few;
+        swept = rw (add-one found.slot, n_is, gone_is)
+            (found_cell node id cs m found.slot so_far.swept h goes x refl stands next.here.1.1
+            next.here.0 called);
+        later = later_kept cs m n found.slot goes n_is so_far.later;
+        len = length_kept m n found.slot goes n_is ∙ so_far.len;
+        few = few_more gone left found.slot goes gone_is so_far.few;
       }
 
 -- after the last entry all are swept
-pub sweep_ends : {F T : Type 0} (takes : F → T → Type 0) (calls : F → T → Bool → F → Type 0)
-    (is_dead : T → Bool) (f g : F) (cs m : List (Option (Occupant T))) (i gone : ℕ)
+pub sweep_ends : {F T : Type 0} {takes : F → T → Type 0} {calls : F → T → Bool → F → Type 0}
+    {is_dead : T → Bool} {f g : F} {cs m : List (Option (Occupant T))} {i gone : ℕ}
     → NoneFrom cs i → HasSwept takes calls is_dead f cs i g m gone
     → Swept calls is_dead f (entries_from 0 cs) g (entries_from 0 m) gone
-sweep_ends takes calls is_dead f g cs m i gone none w =
+sweep_ends {cs = cs} {m = m} {i = i} none w =
     rw (sym (all_before 0 i cs none))
     (rw (sym (all_before 0 i m (λ k l t. none k l (t.0, sym (w.later k l) ∙ t.1)))) w.swept)

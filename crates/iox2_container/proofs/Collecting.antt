@@ -1,6 +1,5 @@
 -- Callbacks that collect what they are called on, and callbacks that answer by what they hold.
-use Rattle.iox2_container.proofs.Prelude.{[], ◌++◌, ◌+◌, ◌<◌, ◌∙◌, ◌∷◌, ◌≡◌, ◌≤◌, Bool, IsTrue, List, ℕ, ap, append-nil, append_assoc, arith, false, filter, if◌then◌else◌, inl, inr, length, map, refl, sym, true}
-use Rattle.iox2_container.specs.Prelude.{CalledInTurn, CallbackProgression, CanVisit, Continue, Stop, Visit, Visits}
+use Rattle.iox2_container.proofs.Prelude.{Bool, CallbackProgression, CalledInTurn, CanVisit, Continue, IsTrue, List, Visit, Visits, [], ap, append-nil, append_assoc, arith, false, filter, if◌then◌else◌, inl, inr, length, map, refl, true, ℕ, ◌++◌, ◌+◌, ◌<◌, ◌∙◌, ◌∷◌, ◌≡◌, ◌≤◌}
 use Rattle.iox2_container.proofs.Callable.{CalledInTurn-keeps, CanVisit-by}
 
 -- a callback that puts what it makes of each item that
@@ -29,14 +28,8 @@ module _ {F A B N : Type 0} (calls : F → A → CallbackProgression → F → T
   collects_more : (f : F) (items : List A) (f' : F) → keeps f → Visits calls f items f'
       → (name f' ≡ name f) × (items_of f' ≡ items_of f ++ made items)
       × (len f' ≡ len f + length (filter p items)) × (room f' ≡ room f)
-  collects_more f [] f' k done = (
-    ap name done,
-    ap items_of done ∙ sym (append-nil (items_of f)),
-    omega (arith, ap len done),
-    ap room done,
-  )
-  collects_more f (x ∷ xs) f' k (inl stopped) =
-      (let z : Stop ≡ Continue = (step f x Stop f' k stopped).1 in cc)
+  collects_more f [] f' k done = grind (arith, append-nil)
+  collects_more f (x ∷ xs) f' k (inl stopped) = grind (arith, step)
   collects_more f (x ∷ xs) f' k (inr goes) =
       let s = step f x Continue goes.0 k goes.1 in
       let rest = collects_more goes.0 xs f' s.5 goes.2 in (

@@ -1,6 +1,5 @@
 -- How many entries a test holds of.
-use Rattle.iox2_container.proofs.Prelude.{[], ◌++◌, ◌+◌, ◌<◌, ◌∙◌, ◌∷◌, ◌≡◌, ◌≤◌, ◌⊎◌, All, All-cons, All-nil, Bool, IsSome, List, MatchBool, MatchOption, None, Option, Some, ℕ, add-one, ap, arith, false, if◌then◌else◌, inl, inr, leb_tells, length, lt-ltb, nat_lt, refl, same_Some, slice_get, suc, sym, take, true}
-use Rattle.iox2_container.specs.Prelude.{AreOthers, Entry, Found, InsertsOne, IsLastOf, IsNextOf, IsTakenAt, NoneFrom, Occupant, SlotIsOf, candidates, cell_is_of, entries_from, is_of, staying}
+use Rattle.iox2_container.proofs.Prelude.{All, All-cons, All-nil, AreOthers, Bool, Entry, Found, InsertsOne, IsLastOf, IsNextOf, IsSome, IsTakenAt, List, MatchBool, MatchOption, None, NoneFrom, Occupant, Option, SlotIsOf, Some, [], add-one, ap, arith, candidates, cell_is_of, entries_from, false, if◌then◌else◌, inl, inr, is_of, leb_tells, length, lt-ltb, nat_lt, refl, same_Some, slice_get, staying, suc, sym, take, true, ℕ, ◌++◌, ◌+◌, ◌<◌, ◌∙◌, ◌∷◌, ◌≡◌, ◌≤◌, ◌⊎◌}
 use Rattle.iox2_container.proofs.CallsInTurn.{entries_split, taken_free, taken_more}
 use Rattle.iox2_container.proofs.CellEntries.{all_before}
 use Rattle.iox2_container.proofs.Sweeping.{over_others}
@@ -81,11 +80,7 @@ module _ {T : Type 0} (node : T → ℕ) (id : ℕ) (cells : List (Option (Occup
   -- other slots, and more of them
   pub others_join : (from i j to : ℕ) → AreOthers node id cells from i
       → AreOthers node id cells j to → j ≤ i → AreOthers node id cells from to
-  others_join from i j to before after le k l h =
-      elim (leb_tells i k) as (λ _. SlotIsOf node id cells k false) [
-        | inl later ↦ after k (omega (arith, later.1)) h
-        | inr less ↦ before k l less.1
-      ]
+  others_join from i j to before after le k l h = grind (arith, leb_tells i k)
 
   -- one other slot
   pub other_at : (i to : ℕ) → SlotIsOf node id cells i false → to ≡ i + 1
@@ -118,8 +113,7 @@ module _ {T : Type 0} (node : T → ℕ) (id : ℕ) (cells : List (Option (Occup
       → IsSome o ⊎ (end ≡ to) → AreOthers node id cells from at
       → MatchOption o (AreOthers node id cells at end) (IsNextOf node id cells at end)
       → MatchOption o (AreOthers node id cells from to) (IsNextOf node id cells from to)
-  found_after from at end to None l m (inl some) others after =
-      absurd (let none : IsSome {T = Found T} None = some in cc)
+  found_after from at end to None l m (inl some) others after = grind arith
   found_after from at end to None l m (inr e) others after =
       others_join from at at to others (rw e at after) (omega arith)
   found_after from at end to (Some found) l m s others next = record {
@@ -160,16 +154,10 @@ module _ {T : Type 0} (node : T → ℕ) (id : ℕ) (cells : List (Option (Occup
         ]
 
     pub newest_found : (old new : ℕ) → IsLastOf node id cells 0 middle old new → new ≡ old + 1
-    newest_found old new last =
-        elim (leb_tells slot last.slot) as (λ _. new ≡ old + 1) [
-          | inl later ↦ omega (arith, begins_there, later.1, last.before, last.looks)
-          | inr less ↦ absurd (not_both slot has
-              (last.others slot (omega (arith, less.1)) (omega (arith, begins_there))))
-        ]
+    newest_found old new last = grind (arith, leb_tells slot last.slot, begins_there, not_both)
 
     pub newest_missed : AreOthers node id cells 0 middle → ⊥
-    newest_missed others =
-        not_both slot has (others slot (omega arith) (omega (arith, begins_there)))
+    newest_missed others = grind (arith, begins_there, not_both)
 
 -- one entry more
 pub counted-InsertsOne : {T : Type 0} (p : T → Bool) (old new : List (Entry T)) (x : Entry T)
@@ -192,7 +180,4 @@ not_one false h = refl
 pub All-other : {T : Type 0} (p : T → Bool) (es : List (Entry T)) → counted p es ≡ 0
     → All (λ e. p e.details ≡ false) es
 All-other {T} p [] h = All-nil (λ (e : Entry T). p e.details ≡ false)
-All-other {T} p (e ∷ es) h =
-    All-cons (λ (e : Entry T). p e.details ≡ false) e es
-    (not_one (p e.details) (omega (arith, counted-cons p e es)))
-    (All-other p es (omega (arith, counted-cons p e es)))
+All-other {T} p (e ∷ es) h = grind (arith, All-cons, not_one, counted-cons, All-other p es)

@@ -1,6 +1,5 @@
 -- The list of free slots, that is linked through the cells.
-use Rattle.iox2_container.proofs.Prelude.{[], ◌<◌, ◌∷◌, ◌≡◌, ◌≢◌, All, All-cons, All-head, All-nil, All-tail, All-weaker, List, None, Option, Some, ℕ, arith, length, map, refl, replicate, slice_get, slice_set, suc, zero}
-use Rattle.iox2_container.specs.Prelude.{Free, IsFreeAt, LeadsThrough, Linked, Occupant, Taken, occupant, shown}
+use Rattle.iox2_container.proofs.Prelude.{All, All-cons, All-head, All-nil, All-tail, All-weaker, Free, IsFreeAt, LeadsThrough, Linked, List, None, Occupant, Option, Some, Taken, [], arith, length, map, occupant, refl, replicate, shown, slice_get, slice_set, suc, zero, ℕ, ◌<◌, ◌∷◌, ◌≡◌, ◌≢◌}
 use Rattle.iox2_container.proofs.ListEdits.{get_set_other, get_set_same}
 use Rattle.iox2_container.proofs.ShownCells.{shown_at}
 

@@ -1,7 +1,5 @@
 -- What follows where a list of entries gains one.
-use Rattle.std.proofs.Common.{arith, rules}
-use Rattle.iox2_container.proofs.Prelude.{[], ◌++◌, ◌+◌, ◌∷◌, ◌≡◌, All, All-append, All-cons, All-drop, All-head, All-tail, All-take, AllPairs, AllPairs-cons, List, arith, length, length-append, suc, zero}
-use Rattle.iox2_container.specs.Prelude.{Entry, InsertsOne}
+use Rattle.iox2_container.proofs.Prelude.{All, All-append, All-cons, All-drop, All-head, All-tail, All-take, AllPairs, AllPairs-cons, Entry, InsertsOne, List, [], arith, length, length-append, rules, suc, zero, ◌++◌, ◌+◌, ◌∷◌, ◌≡◌}
 use Rattle.std.proofs.Math.Seq.{take-append_seam, drop-append_seam}
 
 pub AllPairs-head : {X : Type 0} (R : X → X → Type 0) (x : X) (xs : List X) → AllPairs R (x ∷ xs)
@@ -42,6 +40,15 @@ AllPairs-cut R (y ∷ b) a x p =
     AllPairs-cons R y (b ++ a)
     (All-cut (R y) b a x (AllPairs-head R y (b ++ x ∷ a) p))
     (AllPairs-cut R b a x (AllPairs-tail R y (b ++ x ∷ a) p))
+
+-- each of the others is related to the one between them
+pub AllPairs-around : {X : Type 0} (R : X → X → Type 0) (b a : List X) (x : X)
+    → ((y : X) → R y x → R x y) → AllPairs R (b ++ x ∷ a) → All (R x) (b ++ a)
+AllPairs-around R [] a x s p = AllPairs-head R x a p
+AllPairs-around R (y ∷ b) a x s p =
+    All-cons (R x) y (b ++ a)
+    (s y (All-head (R y) x a (All-back (R y) b (x ∷ a) (AllPairs-head R y (b ++ x ∷ a) p))))
+    (AllPairs-around R b a x s (AllPairs-tail R y (b ++ x ∷ a) p))
 
 -- there is one more
 pub length-InsertsOne : {T : Type 0} (old new : List (Entry T)) (x : Entry T) → InsertsOne old new x

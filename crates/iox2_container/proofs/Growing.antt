@@ -1,6 +1,5 @@
 -- What each change leaves as it was, what it adds and what it takes out.
-use Rattle.iox2_container.proofs.Prelude.{[], ◌∙◌, ◌∷◌, ◌≡◌, ◌≤◌, ◌⊎◌, Bool, Contains, Err, List, Ok, Result, ℕ, ap, arith, inl, inr, map, refl, sym}
-use Rattle.iox2_container.specs.Prelude.{AddStep, Adding, Change, ChangeStep, ContainerAddFailure, ContainerRemoveError, Enters, Entry, Handle, IsLocked, IsRegistry, Leaves, OutOfSpace, Recovering, Recovers, RegistryState, ReleaseMode, ReleaseState, RemoveStep, Removing, TakesOut, handle_of, leaving}
+use Rattle.iox2_container.proofs.Prelude.{AddStep, Adding, Bool, Change, ChangeStep, ContainerAddFailure, ContainerRemoveError, Contains, Enters, Entry, Err, Handle, IsLocked, IsRegistry, Leaves, List, Ok, OutOfSpace, Recovering, Recovers, RegistryState, ReleaseMode, ReleaseState, RemoveStep, Removing, Result, TakesOut, [], ap, arith, handle_of, inl, inr, leaving, map, refl, sym, ℕ, ◌∙◌, ◌∷◌, ◌≡◌, ◌≤◌, ◌⊎◌}
 use Rattle.iox2_container.proofs.Members.{Among, DifferBy, among_contained, among_less, among_more, contains_among, gained, moved, other_differs}
 use Rattle.iox2_container.proofs.Leaving.{leaves_among, stays_among, stays_apart, stays_or_leaves}
 
@@ -15,6 +14,13 @@ pub record Grows {T : Type 0} (old new : RegistryState T) : Type 0 where
 
 pub grows_same : {T : Type 0} (old new : RegistryState T) → new ≡ old → Grows old new
 grows_same old new e = grind arith
+
+-- what a change leaves as it was, by what it says of the new registry
+grows_by : {T : Type 0} (old new : RegistryState T) {es : List (Entry T)} {locked : Bool} {u : ℕ}
+    → new ≡ record old { entries = es; locked = locked; used = u } → old.used ≤ u
+    → ((x : Entry T) → Among x new.entries → Among x old.entries ⊎ (x.ticket ≡ old.used))
+    → Grows old new
+grows_by {T} old new e l f = grind arith
 
 -- an entry has one handle before and after
 pub same_key : {T : Type 0} (old new : RegistryState T) (x : Entry T) → Grows old new
@@ -66,34 +72,21 @@ edits {T} old (Adding d (Ok key)) new s =
     let n : Enters old d key new = s.2 in
     let y : Entry T = record { slot = key.slot; ticket = old.used; details = d } in
     let less = among_less old.entries new.entries y in
-    rw n.3 (record {
-      grows = record {
-        service = refl;
-        role = refl;
-        slots = refl;
-        tickets = refl;
-        used = omega arith;
-        entries = λ x a. elim (less x n.2 a) [ inl m ↦ inl m | inr e ↦ inr (ap (λ z. z.ticket) e) ];
-      };
+    record {
+      grows = grows_by old new n.3 (omega arith)
+          (λ x a. elim (less x n.2 a) [ inl m ↦ inl m | inr e ↦ inr (ap (λ z. z.ticket) e) ]);
       stays = λ x a. inl (among_more old.entries new.entries y x n.2 a);
       was = λ x a. elim (less x n.2 a) [
         | inl m ↦ inl (m, λ w t. t)
         | inr e ↦ inr (rw e (ap (λ (k : Handle). Adding d (Ok k)) n.0))
       ];
       out = λ handle t. absurd t;
-    })
+    }
 edits {T} old (Removing key mode (Ok state)) new s =
     let l : Leaves old key mode new = s.0 in
     let more = among_more new.entries old.entries l.0 in
-    rw l.3 (record {
-      grows = record {
-        service = refl;
-        role = refl;
-        slots = refl;
-        tickets = refl;
-        used = omega arith;
-        entries = λ x a. inl (more x l.2 a);
-      };
+    record {
+      grows = grows_by old new l.3 (omega arith) (λ x a. inl (more x l.2 a));
       stays = λ x a. elim (among_less new.entries old.entries l.0 x l.2 a) [
         | inl m ↦ inl m
         | inr e ↦ inr (ap (handle_of old) e ∙ sym l.1)
@@ -104,7 +97,7 @@ edits {T} old (Removing key mode (Ok state)) new s =
             (ap (λ (k : Handle). k.slot) (t ∙ l.1)),
       );
       out = λ handle t. (l.0, gained new.entries old.entries l.0 l.2, t ∙ l.1);
-    })
+    }
 edits {T} old (Recovering is_dead marked went mode state) new s =
     let gone = leaving is_dead marked old.entries in
     let its : (k : Handle) → Contains went k → (x : Entry T) × Among x gone
@@ -112,14 +105,8 @@ edits {T} old (Recovering is_dead marked went mode state) new s =
     λ k t. handle_among old gone k
     (moved k went (map (handle_of old) gone) s.1 (among_contained went k t)) in
     rw s.0.0 (record {
-      grows = record {
-        service = refl;
-        role = refl;
-        slots = refl;
-        tickets = refl;
-        used = omega arith;
-        entries = λ x a. inl (stays_among is_dead marked old.entries x a);
-      };
+      grows = grows_by old _ refl (omega arith)
+          (λ x a. inl (stays_among is_dead marked old.entries x a));
       stays = λ x a. elim (stays_or_leaves is_dead marked old.entries x a) [
         | inl m ↦ inl m
         | inr m ↦ inr

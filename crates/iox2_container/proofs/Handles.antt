@@ -1,6 +1,5 @@
 -- What a handle names.
-use Rattle.iox2_container.proofs.Prelude.{◌≡◌, ◌≢◌, All-weaker, List, MatchOption, None, Option, Some, arith, refl, slice_get, slice_set}
-use Rattle.iox2_container.specs.Prelude.{Entry, Finds, Handle, HasEntry, IsUnknownHandle, Occupant, RegistryHeader, RegistryState, entries_from, handle_of, occupant, registry_of}
+use Rattle.iox2_container.proofs.Prelude.{All-weaker, Entry, Finds, Handle, HasEntry, IsUnknownHandle, List, MatchOption, None, Occupant, Option, RegistryHeader, RegistryState, Some, arith, entries_from, handle_of, occupant, refl, registry_of, slice_get, slice_set, ◌≡◌, ◌≢◌}
 use Rattle.iox2_container.proofs.CellEntries.{shown_from, gains_clear}
 use Rattle.iox2_container.proofs.Members.{of_all, gained}
 

@@ -1,7 +1,5 @@
 -- What histories of registries say of their entries.
-use Rattle.std.proofs.Common.{arith, rules}
-use Rattle.iox2_container.proofs.Prelude.{[], ◌++◌, ◌<◌, ◌↔◌, ◌∙◌, ◌∷◌, ◌≡◌, ◌≢◌, ◌≤◌, ◌⊎◌, All, All-cons, All-head, All-nil, All-tail, All-weaker, AllPairs, AllPairs-cons, Any, Err, List, Ok, Result, ap, arith, cons_option, inl, inr, refl, sym}
-use Rattle.iox2_container.specs.Prelude.{Adding, Change, ChangeStep, ContainerRemoveError, Enters, Entry, Handle, HasEntry, History, IsNew, IsRefused, IsRegistry, Leaves, RegistryState, ReleaseMode, ReleaseState, Remains, RemoveStep, TakesOut, handle_given_by, handle_of, handles_given}
+use Rattle.iox2_container.proofs.Prelude.{Adding, All, All-cons, All-head, All-nil, All-tail, All-weaker, AllPairs, AllPairs-cons, Any, Change, ChangeStep, ContainerRemoveError, Enters, Entry, Err, Handle, HasEntry, History, IsNew, IsRefused, IsRegistry, Leaves, List, Ok, RegistryState, ReleaseMode, ReleaseState, Remains, RemoveStep, Result, TakesOut, [], ap, arith, cons_option, handle_given_by, handle_of, handles_given, inl, inr, refl, rules, sym, ◌++◌, ◌<◌, ◌↔◌, ◌∙◌, ◌∷◌, ◌≡◌, ◌≢◌, ◌≤◌, ◌⊎◌}
 use Rattle.iox2_container.specs.declared.container.refusal.ContainerRemoveError.TheVariants.{ContainerHandleNotOwnedByContainer}
 use Rattle.iox2_container.proofs.Members.{Among, of_all, moved, first_or_other, gained, without}
 use Rattle.iox2_container.proofs.Keeping.{new_is_registry}

@@ -1,6 +1,5 @@
 -- The handles that a registry gave: what it knows of them while it is called.
-use Rattle.iox2_container.proofs.Prelude.{[], ⊤, ◌++◌, ◌<◌, ◌∙◌, ◌∷◌, ◌≡◌, Err, List, None, Ok, Option, Result, Some, ℕ, ap, arith, inl, inr, suc, zero}
-use Rattle.iox2_container.specs.Prelude.{AddStep, Adding, CallStep, ContainerAddFailure, ContainerRemoveError, ContainerState, Enters, Entry, Handle, IsRegistry, RegistryCall, RegistryReply, RegistryState, ReleaseMode, ReleaseState, RemoveGiven, handle_given, handle_in, handle_of, is_of, reply_of_add, reply_of_remove}
+use Rattle.iox2_container.proofs.Prelude.{AllZip, AddStep, Adding, CallStep, ContainerState, Enters, Entry, Handle, IsRegistry, List, None, Ok, Option, RegistryCall, RegistryReply, RegistryState, ReleaseMode, RemoveGiven, Some, [], ap, arith, handle_given, handle_in, handle_of, inl, inr, is_of, suc, zero, ℕ, ⊤, ◌<◌, ◌∙◌, ◌∷◌, ◌≡◌}
 use Rattle.iox2_container.specs.declared.container.comparison.calls.RegistryCall.TheVariants as Call
 use Rattle.iox2_container.specs.declared.container.comparison.calls.RegistryReply.TheVariants as Reply
 use Rattle.iox2_container.proofs.Members.{Among, of_all}
@@ -21,19 +20,14 @@ knows_on {T} old new handle m k = record {
   ];
 }
 
-abbrev pub KnowsGiven : {T : Type 0} → RegistryState T → Option Handle → Type 0
-KnowsGiven r None = ⊤
-KnowsGiven r (Some handle) = Knows r handle
-
 -- the handle in a reply
 abbrev pub given_by : {T : Type 0} → RegistryReply T → Option Handle
 given_by reply = handle_in (Some reply)
 
-knows_added : {T : Type 0} (old new : RegistryState T) (d : T)
-    (result : Result Handle ContainerAddFailure) → IsRegistry old → AddStep old d result new
-    → KnowsGiven new (given_by (reply_of_add {T = T} result))
-knows_added old new d (Err f) w s = tt
-knows_added {T} old new d (Ok key) w s =
+-- the registry knows the handle that it gave
+pub knows_added : {T : Type 0} (old new : RegistryState T) (d : T) (key : Handle) → IsRegistry old
+    → AddStep old d (Ok key) new → Knows new key
+knows_added {T} old new d key w s =
     let n : Enters old d key new = s.2 in
     let k : key.ticket ≡ old.used = ap (λ (h : Handle). h.ticket) n.0 in
     let m = edits old (Adding d (Ok key)) new s in
@@ -50,74 +44,51 @@ knows_added {T} old new d (Ok key) w s =
       ];
     }
 
-knows_removed : {T : Type 0} (new : RegistryState T)
-    (result : Result ReleaseState ContainerRemoveError)
-    → KnowsGiven new (given_by (reply_of_remove {T = T} result))
-knows_removed new (Ok t) = tt
-knows_removed new (Err e) = tt
+-- each call leaves as it was what `Grows` says
+module _ {T : Type 0} (node number : T → ℕ) (old : ContainerState T)
+    (earlier : List (RegistryReply T)) (reply : RegistryReply T) (new : ContainerState T) where
+  grows_given : (given : Option Handle) (mode : ReleaseMode) → RemoveGiven old given mode reply new
+      → Grows old.registry new.registry
+  grows_given None mode s = grows_same old.registry new.registry (ap (λ c. c.registry) s.1)
+  grows_given (Some handle) mode s = grind (arith, grows_remove)
 
--- what a call does for the handles that were given
-record Goes {T : Type 0} (old new : RegistryState T) (reply : RegistryReply T) : Type 0 where
-  pub grows : Grows old new
-  pub knows : KnowsGiven new (given_by reply)
+  pub grows_call : (call : RegistryCall T) → CallStep node number old earlier call reply new
+      → Grows old.registry new.registry
+  grows_call (Call.Add d) s = grows_add old.registry d s.result new.registry s.step.step
+  grows_call (Call.Remove k mode) s = grows_given (handle_given earlier k) mode s
+  grows_call (Call.Recover dead keys mode) s =
+      grows_recover (is_of node dead) s.step.step.marked old.registry mode s.result new.registry
+      s.step.step.recovers
+  grows_call Call.List s = grows_same old.registry new.registry (ap (λ c. c.registry) s.step.1)
+  grows_call Call.Len s = grows_same old.registry new.registry (ap (λ c. c.registry) s.1)
 
-module _ {T : Type 0} (old new : ContainerState T) (reply : RegistryReply T) where
-  goes_still : (reported : RegistryReply T) → reply ≡ reported → new ≡ old
-      → KnowsGiven new.registry (given_by reported) → Goes old.registry new.registry reply
-  goes_still reported e same k = record {
-    grows = grows_same old.registry new.registry (ap (λ c. c.registry) same);
-    knows = rw e k;
-  }
+-- two handles of one ticket, each known to its registry, or no handle
+abbrev pub KnowBoth : {T : Type 0} → RegistryState T → RegistryState T → Option Handle
+    → Option Handle → Type 0
+KnowBoth a b None None = ⊤
+KnowBoth a b (Some h) (Some k) = (h.ticket ≡ k.ticket) × Knows a h × Knows b k
+KnowBoth a b one other = ⊥
 
-  goes_given : (given : Option Handle) (mode : ReleaseMode) → RemoveGiven old given mode reply new
-      → Goes old.registry new.registry reply
-  goes_given None mode s = grind (arith, goes_still)
-  goes_given (Some handle) mode s = grind (arith, grows_remove, knows_removed)
+-- the handles in two lists of replies, one after another
+abbrev pub KnowAll : {T : Type 0} → RegistryState T → RegistryState T → List (RegistryReply T)
+    → List (RegistryReply T) → Type 0
+KnowAll a b xs ys = AllZip (λ x y. KnowBoth a b (given_by x) (given_by y)) xs ys
 
-  goes_on : (node number : T → ℕ) (earlier : List (RegistryReply T)) (call : RegistryCall T)
-      → IsRegistry old.registry → CallStep node number old earlier call reply new
-      → Goes old.registry new.registry reply
-  goes_on node number earlier (Call.Add d) w s = record {
-    grows = grows_add old.registry d s.result new.registry s.step.step;
-    knows = rw s.reply_is (knows_added old.registry new.registry d s.result w s.step.step);
-  }
-  goes_on node number earlier (Call.Remove k mode) w s = goes_given (handle_given earlier k) mode s
-  goes_on node number earlier (Call.Recover dead keys mode) w s = record {
-    grows = grows_recover (is_of node dead) s.step.step.marked old.registry mode s.result
-        new.registry s.step.step.recovers;
-    knows = rw s.reply_is tt;
-  }
-  goes_on node number earlier Call.List w s =
-      goes_still (Reply.Entries s.result) s.reply_is s.step.1 tt
-  goes_on node number earlier Call.Len w s = goes_still (Reply.Count _) s.0 s.1 tt
+-- they are still known after a call
+module _ {T : Type 0} (a b a' b' : RegistryState T) (m : Grows a a') (n : Grows b b') where
+  both_on : (one other : Option Handle) → KnowBoth a b one other → KnowBoth a' b' one other
+  both_on None None k = tt
+  both_on (Some h) (Some i) k = (k.0, knows_on a a' h m k.1, knows_on b b' i n k.2)
+  both_on one other k = absurd k
 
--- the handles in all replies
-abbrev pub AllKnown : {T : Type 0} → RegistryState T → List (RegistryReply T) → Type 0
-AllKnown r [] = ⊤
-AllKnown r (x ∷ xs) = KnowsGiven r (given_by x) × AllKnown r xs
+  pub all_on : (xs ys : List (RegistryReply T)) → KnowAll a b xs ys → KnowAll a' b' xs ys
+  all_on [] [] k = tt
+  all_on (x ∷ xs) (y ∷ ys) k = (both_on (given_by x) (given_by y) k.0, all_on xs ys k.1)
+  all_on xs ys k = absurd k
 
-known_moved : {T : Type 0} (old new : RegistryState T) (given : Option Handle) → Grows old new
-    → KnowsGiven old given → KnowsGiven new given
-known_moved old new None m k = tt
-known_moved old new (Some handle) m k = knows_on old new handle m k
-
-known_push : {T : Type 0} (old new : RegistryState T) (xs : List (RegistryReply T))
-    (x : RegistryReply T) → Goes old new x → AllKnown old xs → AllKnown new (xs ++ x ∷ [])
-known_push old new [] x g a = grind arith
-known_push old new (y ∷ ys) x g a = grind (arith, known_moved, known_push old new ys x g a.1)
-
--- after one more call all handles that were given are known
-pub known_on : {T : Type 0} (node number : T → ℕ) (old : ContainerState T)
-    (earlier : List (RegistryReply T)) (call : RegistryCall T) (reply : RegistryReply T)
-    (new : ContainerState T) → IsRegistry old.registry
-    → CallStep node number old earlier call reply new → AllKnown old.registry earlier
-    → AllKnown new.registry (earlier ++ reply ∷ [])
-known_on node number old earlier call reply new w s a =
-    known_push old.registry new.registry earlier reply
-    (goes_on old new reply node number earlier call w s) a
-
-pub known_at : {T : Type 0} (r : RegistryState T) (xs : List (RegistryReply T)) (k : ℕ)
-    → AllKnown r xs → KnowsGiven r (handle_given xs k)
-known_at r [] k a = tt
-known_at r (x ∷ xs) zero a = a.0
-known_at r (x ∷ xs) (suc k) a = known_at r xs k a.1
+pub both_at : {T : Type 0} (a b : RegistryState T) (xs ys : List (RegistryReply T)) (i : ℕ)
+    → KnowAll a b xs ys → KnowBoth a b (handle_given xs i) (handle_given ys i)
+both_at a b [] [] i k = tt
+both_at a b (x ∷ xs) (y ∷ ys) zero k = k.0
+both_at a b (x ∷ xs) (y ∷ ys) (suc i) k = both_at a b xs ys i k.1
+both_at a b xs ys i k = absurd k

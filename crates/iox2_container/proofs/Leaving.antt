@@ -1,7 +1,5 @@
 -- Which entries stay and which leave in a recovery.
-use Rattle.std.proofs.Common.{arith}
-use Rattle.iox2_container.proofs.Prelude.{[], ◌&&◌, ◌∙◌, ◌∷◌, ◌≡◌, ◌≢◌, ◌⊎◌, Bool, List, ℕ, ap, false, if◌then◌else◌, inl, inr, map, not, refl, sym, true}
-use Rattle.iox2_container.specs.Prelude.{Entry, candidates, is_leaving, leaving, marks_of, staying}
+use Rattle.iox2_container.proofs.Prelude.{filter, Bool, Entry, List, [], ap, arith, candidates, false, inl, inr, is_leaving, leaving, map, marks_of, not, refl, staying, sym, true, ℕ, ◌&&◌, ◌∙◌, ◌∷◌, ◌≡◌, ◌≢◌, ◌⊎◌}
 use Rattle.iox2_container.proofs.CallsInTurn.{details_of}
 use Rattle.iox2_container.proofs.Members.{Among, DifferBy, among_less, filter_from, filter_to, other_differs, without}
 use Rattle.iox2_container.proofs.SameEntries.{passing}
@@ -37,17 +35,4 @@ pub staying_by : {T : Type 0} (is_dead answer : T → Bool) (marked : ℕ → Bo
     → staying is_dead marked es ≡ passing (λ d. not (is_dead d && answer d)) es
 staying_by is_dead answer marked [] a = refl
 staying_by {T} is_dead answer marked (e ∷ es) a =
-    let left = passing (λ d. not (is_dead d && answer d)) es in
-    let chosen = candidates is_dead es in
-    (elim (is_dead e.details) as
-    (λ b. map (λ v. marked v.slot) (if b then e ∷ chosen else chosen)
-    ≡ map answer (details_of (if b then e ∷ chosen else chosen))
-    → (if not (b && marked e.slot) then e
-    ∷ staying is_dead marked es else staying is_dead marked es)
-    ≡ (if not (b && answer e.details) then e ∷ left else left)) [
-      | true ↦ λ a.
-          let first : marked e.slot ≡ answer e.details = (cc) in
-          let rest : marks_of is_dead marked es ≡ map answer (details_of chosen) = (cc) in
-          rw (first, staying_by is_dead answer marked es rest) refl
-      | false ↦ λ a. ap (λ (l : List (Entry T)). e ∷ l) (staying_by is_dead answer marked es a)
-    ]) a
+    grind (arith, filter, staying_by is_dead answer marked es)

@@ -1,7 +1,5 @@
 -- Callbacks that are called in turn, seen through another state or with other details.
-use Rattle.std.proofs.Common.{arith}
-use Rattle.iox2_container.proofs.Prelude.{[], ◌∙◌, ◌∷◌, ◌≡◌, Bool, List, ℕ, ap, filter_agree, inl, inr, length-map, map, map-id, map-map, refl}
-use Rattle.iox2_container.specs.Prelude.{CalledInTurn, CallbackProgression, ContainerState, Continue, Entry, RecoverStep, RecoversBy, RegistryState, ReleaseMode, ReleaseState, Stop, Visit, Visits, details_where, candidates, entry_as, marks_of, registry_as, staying}
+use Rattle.iox2_container.proofs.Prelude.{Bool, CallbackProgression, CalledInTurn, ContainerState, Entry, List, RecoverStep, RecoversBy, RegistryState, ReleaseMode, ReleaseState, Stop, Visit, Visits, [], ap, arith, candidates, details_where, entry_as, filter_agree, inl, inr, length-map, map, map-id, map-map, marks_of, refl, registry_as, staying, ℕ, ◌∙◌, ◌∷◌, ◌≡◌}
 use Rattle.iox2_container.proofs.Callable.{CalledInTurn-keeps}
 use Rattle.iox2_container.proofs.ListEdits.{filter-map}
 use Rattle.iox2_container.proofs.Mapped.{candidates-as, listed-as}
@@ -111,9 +109,7 @@ module _ {F G A B : Type 0} (calls : F → A → CallbackProgression → F → T
       → (name h ≡ name f) × Visits others (k f) (map u items) (k h)
   visits-lent f [] h done = (ap name done, ap k done)
   visits-lent f (x ∷ xs) h (inl stopped) = let s = step f x Stop h stopped in (s.0, inl s.1)
-  visits-lent f (x ∷ xs) h (inr goes) =
-      let s = step f x Continue goes.0 goes.1 in
-      let rest = visits-lent goes.0 xs h goes.2 in (rest.0 ∙ s.0, inr (k goes.0, s.1, rest.1))
+  visits-lent f (x ∷ xs) h (inr goes) = grind (arith, step, visits-lent goes.0 xs h goes.2)
 
   pub Visit-lent : (f : F) (items : List A) (h : F) → Visit calls f items h
       → (name h ≡ name f) × Visit others (k f) (map u items) (k h)

@@ -1,6 +1,5 @@
 -- Lists in which one element was written, and lists that were mapped and filtered.
-use Rattle.std.proofs.Common.{arith, rules}
-use Rattle.iox2_container.proofs.Prelude.{[], ◌<◌, ◌∷◌, ◌≡◌, ◌≢◌, Bool, List, Some, ℕ, ap, filter, get_or-set_same, length, length-set, map, refl, slice_get, slice_get_read, slice_set, suc, zero}
+use Rattle.iox2_container.proofs.Prelude.{Bool, List, Some, [], ap, arith, filter, get_or-set_same, length, length-set, map, refl, rules, slice_get, slice_get_read, slice_set, suc, zero, ℕ, ◌<◌, ◌∷◌, ◌≡◌, ◌≢◌}
 
 -- the others are as they were
 pub get_set_other : {A : Type 0} (xs : List A) (i j : ℕ) (a : A) → j ≢ i

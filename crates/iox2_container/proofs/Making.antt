@@ -1,7 +1,5 @@
 -- New containers.
-use Rattle.std.proofs.Common.{arith}
-use Rattle.iox2_container.proofs.Prelude.{◌≡◌, All-nil, List, Option, ℕ, ap, false, length, length-replicate, map, refl, replicate, sym}
-use Rattle.iox2_container.specs.Prelude.{AreRegistry, Cell, Free, IsNewestEnd, Occupant, RegistryHeader, Role, container, fresh, registry_of, shown}
+use Rattle.iox2_container.proofs.Prelude.{◌+◌, All-nil, AreRegistry, Cell, Entry, Free, List, Occupant, Option, RegistryHeader, Role, ap, container, false, fresh, length, length-replicate, map, refl, registry_of, replicate, shown, sym, ℕ, ◌≡◌}
 use Rattle.iox2_container.proofs.CellEntries.{nothing_stands}
 use Rattle.iox2_container.proofs.Keeping.{new_is_registry}
 use Rattle.iox2_container.proofs.ShownCells.{nothing_shown_yet}
@@ -19,15 +17,14 @@ empty_header service role tickets = record {
 
 module _ {T N : Type 0} (service : ℕ) (role : Role) (tickets n : ℕ) (cells : List (Cell T N))
     (next : N) (free : cells ≡ replicate n (Free next)) where
-  pub new_kept : AreRegistry (empty_header service role tickets) (map shown cells)
+  pub new_kept : AreRegistry (empty_header service role tickets) (map shown cells) 0
   new_kept =
-      rw (nothing_shown_yet cells next n free)
-      (let none = nothing_stands {T = T} 0 n in
-      (new_is_registry _ (none, refl, refl), sym (ap length none)))
-
-  pub new_newest :
-      IsNewestEnd (registry_of (empty_header service role tickets) (map shown cells)) 0
-  new_newest = grind (arith, nothing_shown_yet, nothing_stands, All-nil)
+      let none = nothing_stands {T = T} 0 n in
+      rw (nothing_shown_yet cells next n free) (record {
+        registry = new_is_registry _ (none, refl, refl);
+        counted = sym (ap length none);
+        newest = rw none (All-nil (λ (e : Entry T). e.ticket + 1 ≡ 0 → 0 ≡ e.slot + 1));
+      })
 
   pub new_is_fresh : (touches : ℕ) → touches ≡ 0
       → container (registry_of (empty_header service role tickets) (map shown cells)) touches

@@ -1,6 +1,5 @@
 -- What a call does, it does with other details too.
-use Rattle.iox2_container.proofs.Prelude.{[], ◌<◌, ◌==◌, ◌∙◌, ◌∷◌, ◌≡◌, ◌≢◌, All-map, AllPairs, AllPairs-cons, Bool, Err, List, Ok, Result, ℕ, ap, arith, filter_agree, length, length-map, map, map-append, map-map}
-use Rattle.iox2_container.specs.Prelude.{AddStep, Adds, Changes, ContainerAddFailure, ContainerRemoveError, ContainerState, Entry, Handle, HasEntry, InsertsOne, IsLocked, IsRegistry, IsUnknownHandle, OutOfSpace, RegistryState, ReleaseMode, ReleaseState, RemoveStep, Removes, candidates, container_as, entries_of, entry_as, handle_of, is_of, registry_as}
+use Rattle.iox2_container.proofs.Prelude.{AddStep, Adds, All-map, AllPairs, AllPairs-cons, Bool, Changes, ContainerAddFailure, ContainerRemoveError, ContainerState, Entry, Err, Handle, HasEntry, InsertsOne, IsLocked, IsRegistry, IsUnknownHandle, List, Ok, OutOfSpace, RegistryState, ReleaseMode, ReleaseState, RemoveStep, Removes, Result, [], ap, arith, candidates, container_as, entries_of, entry_as, filter_agree, handle_of, is_of, length, length-map, map, map-append, map-map, registry_as, ℕ, ◌<◌, ◌==◌, ◌∙◌, ◌∷◌, ◌≡◌, ◌≢◌}
 use Rattle.iox2_container.proofs.ListEdits.{filter-map}
 use Rattle.iox2_container.proofs.Gaining.{AllPairs-head, AllPairs-tail}
 
@@ -41,8 +40,7 @@ module _ {T U : Type 0} (g : T → U) where
       (new : RegistryState T) → AddStep old details answer new
       → AddStep (registry_as g old) (g details) answer (registry_as g new)
   AddStep-as old details (Err IsLocked) new h = (h.0, ap (registry_as g) h.1)
-  AddStep-as old details (Err OutOfSpace) new h =
-      (h.0, rw (length-map old.entries (entry_as g)) h.1, ap (registry_as g) h.2)
+  AddStep-as old details (Err OutOfSpace) new h = grind (arith, length-map)
   AddStep-as old details (Ok handle) new h = (
     h.0,
     rw (length-map old.entries (entry_as g)) h.1,

@@ -1,8 +1,7 @@
 -- Members of lists, and what they say of lists of entries that gain one.
-use Rattle.iox2_container.proofs.Prelude.{[], ◌++◌, ◌∙◌, ◌∷◌, ◌≡◌, ◌≢◌, ◌⊎◌, All, All-head, All-tail, AllPairs, Any, Bool, Contains, List, ℕ, ap, arith, cond, false, filter, inl, inr, refl, subst, suc, sym, true, zero}
-use Rattle.iox2_container.specs.Prelude.{Entry, InsertsOne}
+use Rattle.iox2_container.proofs.Prelude.{All, All-head, All-tail, AllPairs, Any, Bool, Contains, Entry, InsertsOne, List, [], arith, filter, inl, inr, refl, subst, suc, sym, true, zero, ℕ, ◌++◌, ◌∷◌, ◌≡◌, ◌≢◌, ◌⊎◌}
 use Rattle.iox2_container.proofs.CellEntries.{gains_later}
-use Rattle.iox2_container.proofs.Gaining.{AllPairs-head, AllPairs-tail}
+use Rattle.iox2_container.proofs.Gaining.{AllPairs-around}
 
 -- x is in the list
 abbrev pub Among : {X : Type 0} → X → List X → Type 0
@@ -84,25 +83,17 @@ without (e ∷ es) x (inr h) =
 abbrev pub DifferBy : {T : Type 0} → (Entry T → ℕ) → List (Entry T) → Type 0
 DifferBy n es = AllPairs (λ v w. n v ≢ n w) es
 
-pub head_differs : {T : Type 0} (n : Entry T → ℕ) (e : Entry T) (es : List (Entry T)) (x : Entry T)
-    → DifferBy n (e ∷ es) → Among x es → n e ≢ n x
-head_differs n e es x p h = of_all (λ w. n e ≢ n w) es x (AllPairs-head (λ v w. n v ≢ n w) e es p) h
-
-pub rest_differ : {T : Type 0} (n : Entry T → ℕ) (e : Entry T) (es : List (Entry T))
-    → DifferBy n (e ∷ es) → DifferBy n es
-rest_differ n e es p = AllPairs-tail (λ v w. n v ≢ n w) e es p
-
-cut_differs : {T : Type 0} (n : Entry T → ℕ) (b a : List (Entry T)) (x y : Entry T)
-    → DifferBy n (b ++ x ∷ a) → Among y (b ++ a) → n y ≢ n x
-cut_differs n [] a x y p h s = head_differs n x a y p h (sym s)
-cut_differs n (z ∷ b) a x y p (inl e) s =
-    head_differs n z (b ++ x ∷ a) x p (among_put_self b a x) (sym (ap n e) ∙ s)
-cut_differs n (z ∷ b) a x y p (inr h) s = cut_differs n b a x y (rest_differ n z (b ++ x ∷ a) p) h s
+-- the entry that was gained differs from the others
+pub others_differ : {T : Type 0} (n : Entry T → ℕ) (old new : List (Entry T)) (x : Entry T)
+    → InsertsOne old new x → DifferBy n new → All (λ w. n x ≢ n w) old
+others_differ n old new x g p =
+    rw g.old_is
+    (AllPairs-around (λ v w. n v ≢ n w) g.before g.after x (λ v d e. d (sym e)) (rw g.new_is at p))
 
 pub other_differs : {T : Type 0} (n : Entry T → ℕ) (old new : List (Entry T)) (x y : Entry T)
     → InsertsOne old new x → DifferBy n new → Among y old → n y ≢ n x
-other_differs n old new x y g p h =
-    cut_differs n g.before g.after x y (rw g.new_is at p) (rw g.old_is at h)
+other_differs n old new x y g p h s =
+    of_all (λ w. n x ≢ n w) old y (others_differ n old new x g p) h (sym s)
 
 -- entries of one ticket are one
 pub one_by_ticket : {T : Type 0} (es v w : List (Entry T)) (x y : Entry T)
@@ -118,24 +109,9 @@ one_by_ticket es v w x y differ gx gy t =
 pub filter_from : {X : Type 0} (p : X → Bool) (xs : List X) (x : X) → Among x (filter p xs)
     → Among x xs × (p x ≡ true)
 filter_from p [] x h = absurd h
-filter_from {X} p (y ∷ ys) x h =
-    (elim (p y) as (λ b. p y ≡ b → Among x (cond b (y ∷ filter p ys) (filter p ys))
-    → Among x (y ∷ ys) × (p x ≡ true)) [
-      | true ↦ λ e a. elim a [
-        | inl q ↦ (inl q, ap p q ∙ e)
-        | inr k ↦ (let r = filter_from p ys x k in (inr r.0, r.1))
-      ]
-      | false ↦ λ e a. let r = filter_from p ys x a in (inr r.0, r.1)
-    ]) refl h
+filter_from {X} p (y ∷ ys) x h = grind (arith, filter, filter_from p ys x)
 
 pub filter_to : {X : Type 0} (p : X → Bool) (xs : List X) (x : X) → Among x xs → p x ≡ true
     → Among x (filter p xs)
 filter_to p [] x h e = absurd h
-filter_to {X} p (y ∷ ys) x a e =
-    (elim (p y) as (λ b. p y ≡ b → Among x (cond b (y ∷ filter p ys) (filter p ys))) [
-      | true ↦ λ _. elim a [ inl q ↦ inl q | inr k ↦ inr (filter_to p ys x k e) ]
-      | false ↦ λ n. elim a [
-        | inl q ↦ (let z : false ≡ true = sym n ∙ (sym (ap p q) ∙ e) in cc)
-        | inr k ↦ filter_to p ys x k e
-      ]
-    ]) refl
+filter_to {X} p (y ∷ ys) x a e = grind (arith, filter, filter_to p ys x)

@@ -1,6 +1,5 @@
 -- What a removal does.
-use Rattle.iox2_container.proofs.Prelude.{[], ◌+◌, ◌-◌, ◌∙◌, ◌∷◌, ◌≡◌, ◌≤◌, Bool, IsTrue, List, None, Ok, Option, Some, ℕ, ap, arith, length, length-set, refl, slice_set, suc, zero}
-use Rattle.iox2_container.specs.Prelude.{AreRegistry, Default, Entry, Finds, Handle, InsertsOne, IsNewestEnd, LockIfLastIndex, Occupant, RegistryHeader, ReleaseMode, RemoveStep, entries_from, lock_after, registry_of, release_state}
+use Rattle.iox2_container.proofs.Prelude.{AreRegistry, Bool, Default, Entry, Finds, Handle, InsertsOne, IsTrue, List, LockIfLastIndex, None, Occupant, Ok, Option, RegistryHeader, ReleaseMode, RemoveStep, Some, [], ap, arith, entries_from, length, length-set, lock_after, refl, registry_of, release_state, slice_set, suc, zero, ℕ, ◌+◌, ◌-◌, ◌∙◌, ◌∷◌, ◌≡◌, ◌≤◌}
 use Rattle.iox2_container.proofs.CellEntries.{gains_clear, below_from}
 use Rattle.iox2_container.proofs.Gaining.{length-InsertsOne}
 use Rattle.iox2_container.proofs.Handles.{has_parts}
@@ -37,37 +36,34 @@ pub left_empty : {T : Type 0} (a : RegistryHeader) (gone : ℕ) (mode : ReleaseM
 left_empty a gone mode old new counted empty left t = grind (arith, nothing_left, locks_empty)
 
 -- the entry of a handle goes
-module _ {T : Type 0} (a : RegistryHeader) (cells s : List (Option (Occupant T))) (handle : Handle)
-    (d : T) (k : AreRegistry a cells) (found : Finds cells handle (Some d))
-    (e : s ≡ slice_set cells handle.slot None) where
+module _ {T : Type 0} {a : RegistryHeader} {cells s : List (Option (Occupant T))} {newest_end : ℕ}
+    (handle : Handle) (d : T) (k : AreRegistry a cells newest_end)
+    (found : Finds cells handle (Some d)) (e : s ≡ slice_set cells handle.slot None) where
   gains : InsertsOne (entries_from 0 s) (entries_from 0 cells) (entry_at handle d)
   gains = rw e (gains_clear 0 cells handle.slot (entry_at handle d) found (omega arith))
 
   pub some_stood : a.count ≡ length (entries_from 0 s) + 1
-  some_stood = k.1 ∙ length-InsertsOne _ _ _ gains
+  some_stood = k.counted ∙ length-InsertsOne _ _ _ gains
+
+  left : a.count - 1 ≡ length (entries_from 0 s)
+  left = omega (arith, some_stood)
 
   module _ (mode : ReleaseMode) where
-    pub kept_clear : AreRegistry (left_by a 1 mode) s
-    kept_clear =
-        let left : a.count - 1 ≡ length (entries_from 0 s) = omega (arith, some_stood) in (
-          kept_remove (registry_of a cells) (length s) (entries_from 0 s) (entry_at handle d)
-              (left_by a 1 mode).locked k.0 gains (below_from s)
-              (left_empty a 1 mode _ _ k.1 k.0.locked_is_empty left),
-          left,
-        )
-
-    pub newest_clear : (newest_end : ℕ) → IsNewestEnd (registry_of a cells) newest_end
-        → IsNewestEnd (registry_of (left_by a 1 mode) s) newest_end
-    newest_clear newest_end newest =
-        All-loss (λ e. e.ticket + 1 ≡ a.used → newest_end ≡ e.slot + 1) (entries_from 0 s)
-        (entries_from 0 cells) (entry_at handle d) gains newest
+    pub kept_clear : AreRegistry (left_by a 1 mode) s newest_end
+    kept_clear = record {
+      registry = kept_remove (registry_of a cells) (length s) (entries_from 0 s)
+          (entry_at handle d) (left_by a 1 mode).locked k.registry gains (below_from s)
+          (left_empty a 1 mode _ _ k.counted k.registry.locked_is_empty left);
+      counted = left;
+      newest = All-loss (λ v. v.ticket + 1 ≡ a.used → newest_end ≡ v.slot + 1) (entries_from 0 s)
+          (entries_from 0 cells) (entry_at handle d) gains k.newest;
+    }
 
     pub remove_step : handle.service ≡ a.service → handle.role ≡ a.role
         → RemoveStep (registry_of a cells) handle mode
         (Ok (release_state (left_by a 1 mode).locked)) (registry_of (left_by a 1 mode) s)
     remove_step hs hr =
-        let same : length s ≡ length cells = ap length e ∙ simp length-set in
-        let left : a.count - 1 ≡ length (entries_from 0 s) = omega (arith, some_stood) in (
-          (entry_at handle d, has_parts a handle hs hr, gains, rw (same, left, k.1) refl),
+        let same : length s ≡ length cells = ap length e ∙ simp length-set in (
+          (entry_at handle d, has_parts a handle hs hr, gains, rw (same, left, k.counted) refl),
           refl,
         )

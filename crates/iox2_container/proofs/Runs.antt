@@ -1,7 +1,5 @@
 -- Runs of calls on a registry.
-use Rattle.std.proofs.Common.{arith}
-use Rattle.iox2_container.proofs.Prelude.{[], ◌++◌, ◌+◌, ◌<◌, ◌∙◌, ◌∷◌, ◌≡◌, List, ℕ, ap, append-nil, append_assoc, get_or, length, length-append, take, take_more}
-use Rattle.iox2_container.specs.Prelude.{Answered, CallRun, CallStep, ContainerState, IsNew, IsRegistry, Made, RegistryCall, RegistryReply, SameKind}
+use Rattle.iox2_container.proofs.Prelude.{Answered, CallRun, CallStep, ContainerState, IsNew, IsRegistry, List, Made, RegistryCall, RegistryReply, SameKind, [], ap, append-nil, append_assoc, arith, get_or, length, length-append, take, take_more, ℕ, ◌++◌, ◌+◌, ◌<◌, ◌∙◌, ◌∷◌, ◌≡◌}
 use Rattle.iox2_container.proofs.SameContents.{same_kind}
 
 run_more : {T : Type 0} (node number : T → ℕ) (old : ContainerState T)

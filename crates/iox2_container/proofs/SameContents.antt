@@ -1,6 +1,5 @@
 -- Two registries under the same calls.
-use Rattle.iox2_container.proofs.Prelude.{[], ⊤, ◌&&◌, ◌++◌, ◌+◌, ◌∙◌, ◌∷◌, ◌≡◌, ◌≢◌, All, AllZip, AllZip-push, Bool, Err, IsPermutation, List, None, Ok, Option, Result, Some, ℕ, ap, arith, inl, inr, length, length-map, length_permutation, not, refl, suc, sym, zero}
-use Rattle.iox2_container.specs.Prelude.{AddStep, CallRun, CallStep, ContainerAddFailure, ContainerRemoveError, ContainerState, Enters, Entry, Handle, HasRoom, IsFull, IsLocked, IsNew, IsRegistry, Leaves, OutOfSpace, RecoverStep, RegistryCall, RegistryReply, RegistryState, ReleaseMode, ReleaseState, RemoveGiven, RemoveStep, SameKind, SameReply, handle_given, handle_of, is_of, is_outside, listed, lock_after, release_state, reply_of_add, reply_of_remove}
+use Rattle.iox2_container.proofs.Prelude.{AddStep, All, AllZip-push, Bool, CallRun, CallStep, ContainerAddFailure, ContainerRemoveError, ContainerState, Enters, Entry, Err, Handle, HasRoom, IsFull, IsLocked, IsNew, IsPermutation, IsRegistry, Leaves, List, None, Ok, Option, OutOfSpace, RecoverStep, RegistryCall, RegistryReply, RegistryState, ReleaseMode, ReleaseState, RemoveGiven, RemoveStep, Result, SameKind, SameReply, Some, [], ap, arith, handle_given, handle_of, inl, inr, is_of, is_outside, length, length-map, length_permutation, listed, lock_after, not, refl, release_state, reply_of_add, reply_of_remove, sym, ℕ, ◌&&◌, ◌++◌, ◌+◌, ◌∙◌, ◌∷◌, ◌≡◌, ◌≢◌}
 use Rattle.iox2_container.specs.declared.container.comparison.calls.RegistryCall.TheVariants as Call
 use Rattle.iox2_container.specs.declared.container.comparison.calls.RegistryReply.TheVariants as Reply
 use Rattle.iox2_container.proofs.Collecting.{answers_by}
@@ -9,10 +8,12 @@ use Rattle.iox2_container.proofs.SameEntries.{AreAmong, same_members, nothing_wi
 use Rattle.iox2_container.proofs.Leaving.{staying_by}
 use Rattle.iox2_container.proofs.Histories.{ticket_of}
 use Rattle.iox2_container.proofs.Keeping.{new_is_registry}
-use Rattle.iox2_container.proofs.KnownHandles.{Knows, KnowsGiven, AllKnown, given_by, known_at, known_on}
+use Rattle.iox2_container.proofs.KnownHandles.{KnowAll, KnowBoth, Knows, all_on, both_at, given_by, grows_call, knows_added}
 
 -- two registries that hold the same
 record SameContents {T : Type 0} (a b : RegistryState T) : Type 0 where
+  pub one : IsRegistry a
+  pub other : IsRegistry b
   pub capacity : a.capacity ≡ b.capacity
   pub budget : a.budget ≡ b.budget
   pub used : a.used ≡ b.used
@@ -20,63 +21,46 @@ record SameContents {T : Type 0} (a b : RegistryState T) : Type 0 where
   pub there : AreAmong a.entries b.entries
   pub back : AreAmong b.entries a.entries
 
-turned : {T : Type 0} (a b : RegistryState T) → SameContents a b → SameContents b a
-turned a b l =
-    record {
-      capacity = sym l.capacity;
-      budget = sym l.budget;
-      used = sym l.used;
-      locked = sym l.locked;
-      there = l.back;
-      back = l.there;
-    }
-
--- they still do, where only entries, locks and tickets changed
-alike_after : {T : Type 0} (a b a' b' : RegistryState T) {es fs : List (Entry T)} {k m : Bool}
-    {u v : ℕ} → SameContents a b → a' ≡ record a { entries = es; locked = k; used = u }
-    → b' ≡ record b { entries = fs; locked = m; used = v } → u ≡ v → k ≡ m
-    → AreAmong a'.entries b'.entries → AreAmong b'.entries a'.entries → SameContents a' b'
-alike_after a b a' b' l ea eb used locked there back = rw (ea, eb) (record {
-  capacity = l.capacity;
-  budget = l.budget;
-  used = used;
-  locked = locked;
-  there = rw (ea, eb) at there;
-  back = rw (ea, eb) at back;
-})
-
-module _ {T : Type 0} (a b : RegistryState T) (there : AreAmong a.entries b.entries)
-    (back : AreAmong b.entries a.entries) (v : IsRegistry a) (w : IsRegistry b) where
+module _ {T : Type 0} {a b : RegistryState T} (v : IsRegistry a) (w : IsRegistry b)
+    (there : AreAmong a.entries b.entries) (back : AreAmong b.entries a.entries) where
   same_listed : IsPermutation (listed a) (listed b)
   same_listed = same_members a.entries b.entries v.tickets_differ w.tickets_differ there back
 
   same_length : length a.entries ≡ length b.entries
   same_length = grind (arith, length_permutation, same_listed, length-map)
 
-abbrev TicketsAgree : Option Handle → Option Handle → Type 0
-TicketsAgree None None = ⊤
-TicketsAgree (Some h) (Some k) = h.ticket ≡ k.ticket
-TicketsAgree one other = ⊥
+module _ {T : Type 0} {a b : RegistryState T} (l : SameContents a b) where
+  turned : SameContents b a
+  turned = grind arith
+
+  as_long : length a.entries ≡ length b.entries
+  as_long = same_length l.one l.other l.there l.back
+
+  no_room : IsFull a → HasRoom b → ⊥
+  no_room (inl e) q = omega (arith, e, q.0, l.capacity, as_long)
+  no_room (inr e) q = omega (arith, e, q.1, l.budget, l.used)
+
+  -- they still do, where only entries, locks and tickets changed
+  alike_after : {a' b' : RegistryState T} {es fs : List (Entry T)} {k m : Bool} {u v : ℕ}
+      → IsRegistry a' → IsRegistry b' → a' ≡ record a { entries = es; locked = k; used = u }
+      → b' ≡ record b { entries = fs; locked = m; used = v } → u ≡ v → k ≡ m
+      → AreAmong a'.entries b'.entries → AreAmong b'.entries a'.entries → SameContents a' b'
+  alike_after va wb ea eb used locked there back = grind arith
+
+  -- a removal finds an entry that another does not
+  one_removes : (a' : RegistryState T) (mode : ReleaseMode) (h k : Handle) → h.ticket ≡ k.ticket
+      → Knows b k → Leaves a h mode a' → All (λ x. k ≢ handle_of b x) b.entries → ⊥
+  one_removes a' mode h k e kb p q =
+      let w = l.there p.0.ticket p.0.details (p.0, gained a'.entries a.entries p.0 p.2, refl, refl)
+      in
+      of_all (λ z. k ≢ handle_of b z) b.entries w.0 q w.1
+      (kb.same w.0 w.1 (sym w.2 ∙ (sym (ticket_of h (handle_of a p.0) p.1) ∙ e)))
 
 -- what the same call does to two registries
 record Outcome {T : Type 0} (a b : RegistryState T) (reply other : RegistryReply T) : Type 0 where
   pub same : SameReply reply other
   pub alike : SameContents a b
-  pub tickets : TicketsAgree (given_by reply) (given_by other)
-
-no_room : {T : Type 0} (a b : RegistryState T) → SameContents a b → IsRegistry a → IsRegistry b
-    → IsFull a → HasRoom b → ⊥
-no_room a b l v w (inl e) q = omega (arith, e, q.0, l.capacity, same_length a b l.there l.back v w)
-no_room a b l v w (inr e) q = omega (arith, e, q.1, l.budget, l.used)
-
--- a removal finds an entry that another does not
-one_removes : {T : Type 0} (a b a' : RegistryState T) (mode : ReleaseMode) (h k : Handle)
-    → SameContents a b → h.ticket ≡ k.ticket → Knows b k → Leaves a h mode a'
-    → All (λ x. k ≢ handle_of b x) b.entries → ⊥
-one_removes {T} a b a' mode h k l e kb p q =
-    let w = l.there p.0.ticket p.0.details (p.0, gained a'.entries a.entries p.0 p.2, refl, refl) in
-    of_all (λ z. k ≢ handle_of b z) b.entries w.0 q w.1
-    (kb.same w.0 w.1 (sym w.2 ∙ (sym (ticket_of h (handle_of a p.0) p.1) ∙ e)))
+  pub handles : KnowBoth a b (given_by reply) (given_by other)
 
 -- what stays, where the callback says of each candidate what a function says
 left_by : {T : Type 0} (is_dead answer : T → Bool) (old new : RegistryState T)
@@ -89,16 +73,14 @@ left_by is_dead answer old new mode state r =
     (answers_by {F = Unit {0}} {K = Unit {0}} (λ _ d goes _. goes ≡ answer d) (λ q. q) (λ _. answer)
     (λ q x r v e. (refl, e)) tt _ _ tt r.called)
 
-module _ {T : Type 0} (a b a' b' : RegistryState T) (l : SameContents a b) (v : IsRegistry a)
-    (w : IsRegistry b) where
+module _ {T : Type 0} {a b a' b' : RegistryState T} (l : SameContents a b) (v : IsRegistry a')
+    (w : IsRegistry b') where
   add_same : (d : T) (r s : Result Handle ContainerAddFailure) → AddStep a d r a'
       → AddStep b d s b' → Outcome a' b' (reply_of_add r) (reply_of_add s)
-  add_same d (Err IsLocked) (Err IsLocked) p q =
-      record { same = refl; alike = rw (p.1, q.1) l; tickets = tt }
-  add_same d (Err OutOfSpace) (Err OutOfSpace) p q =
-      record { same = refl; alike = rw (p.2, q.2) l; tickets = tt }
-  add_same d (Err OutOfSpace) (Ok k) p q = absurd (no_room a b l v w p.1 q.1)
-  add_same d (Ok h) (Err OutOfSpace) p q = absurd (no_room b a (turned a b l) w v q.1 p.1)
+  add_same d (Err IsLocked) (Err IsLocked) p q = grind arith
+  add_same d (Err OutOfSpace) (Err OutOfSpace) p q = grind arith
+  add_same d (Err OutOfSpace) (Ok k) p q = absurd (no_room l p.1 q.1)
+  add_same d (Ok h) (Err OutOfSpace) p q = absurd (no_room (turned l) q.1 p.1)
   add_same d (Ok h) (Ok k) p q =
       let n : Enters a d h a' = p.2 in
       let m : Enters b d k b' = q.2 in
@@ -106,17 +88,20 @@ module _ {T : Type 0} (a b a' b' : RegistryState T) (l : SameContents a b) (v : 
       let y : Entry T = record { slot = k.slot; ticket = b.used; details = d } in
       record {
         same = tt;
-        alike = alike_after a b a' b' l n.3 m.3 (ap (λ u. u + 1) l.used) l.locked
+        alike = alike_after l v w n.3 m.3 (ap (λ u. u + 1) l.used) l.locked
             (within_after_add a.entries b.entries a'.entries b'.entries x y n.2 m.2 l.used refl
             l.there)
             (within_after_add b.entries a.entries b'.entries a'.entries y x m.2 n.2
             (sym l.used) refl l.back);
-        tickets = ticket_of h (handle_of a x) n.0
-            ∙ (l.used ∙ sym (ticket_of k (handle_of b y) m.0));
+        handles = (
+          ticket_of h (handle_of a x) n.0 ∙ (l.used ∙ sym (ticket_of k (handle_of b y) m.0)),
+          knows_added a a' d h l.one p,
+          knows_added b b' d k l.other q,
+        );
       }
   add_same d r s p q = cc (l.locked, p.0, q.0)
 
-  module _ (v' : IsRegistry a') (w' : IsRegistry b') (mode : ReleaseMode) where
+  module _ (mode : ReleaseMode) where
     -- entries went from both, and what is left is the same
     released_same : (t u : ReleaseState) {es fs : List (Entry T)}
         → a' ≡ record a {
@@ -129,34 +114,32 @@ module _ {T : Type 0} (a b a' b' : RegistryState T) (l : SameContents a b) (v : 
         → AreAmong a'.entries b'.entries → AreAmong b'.entries a'.entries
         → Outcome a' b' (Reply.State t) (Reply.State u)
     released_same t u ea eb st su there back =
-        let alike = alike_after a b a' b' l ea eb l.used
-        (rw (same_length a b l.there l.back v w, same_length a' b' there back v' w', l.locked) refl)
-        there back in
+        let alike = alike_after l v w ea eb l.used
+        (rw (as_long l, same_length v w there back, l.locked) refl) there back in
         record {
           same = ap Reply.State (st ∙ (ap release_state alike.locked ∙ sym su));
           alike = alike;
-          tickets = tt;
+          handles = tt;
         }
 
     remove_same : (h k : Handle) (r s : Result ReleaseState ContainerRemoveError)
-        → h.ticket ≡ k.ticket → Knows a h → Knows b k → RemoveStep a h mode r a'
-        → RemoveStep b k mode s b' → Outcome a' b' (reply_of_remove r) (reply_of_remove s)
-    remove_same h k (Err f) (Err f') e ka kb p q =
-        record { same = refl; alike = rw (p.1, q.1) l; tickets = tt }
-    remove_same h k (Ok t) (Err f') e ka kb p q =
-        absurd (one_removes a b a' mode h k l e kb p.0 q.0)
-    remove_same h k (Err f) (Ok u) e ka kb p q =
-        absurd (one_removes b a b' mode k h (turned a b l) (sym e) ka q.0 p.0)
-    remove_same h k (Ok t) (Ok u) e ka kb p q =
+        → KnowBoth a b (Some h) (Some k) → RemoveStep a h mode r a' → RemoveStep b k mode s b'
+        → Outcome a' b' (reply_of_remove r) (reply_of_remove s)
+    remove_same h k (Err f) (Err f') e p q = grind arith
+    remove_same h k (Ok t) (Err f') e p q =
+        absurd (one_removes l a' mode h k e.0 e.2 p.0 q.0)
+    remove_same h k (Err f) (Ok u) e p q =
+        absurd (one_removes (turned l) b' mode k h (sym e.0) e.1 q.0 p.0)
+    remove_same h k (Ok t) (Ok u) e p q =
         let n : Leaves a h mode a' = p.0 in
         let m : Leaves b k mode b' = q.0 in
         let st : n.0.ticket ≡ m.0.ticket = sym (ticket_of h (handle_of a n.0) n.1)
-        ∙ (e ∙ ticket_of k (handle_of b m.0) m.1) in
+        ∙ (e.0 ∙ ticket_of k (handle_of b m.0) m.1) in
         released_same t u n.3 m.3 p.1 q.1
         (within_after_remove a.entries b.entries a'.entries b'.entries n.0 m.0 n.2 m.2 st
-        v.tickets_differ l.there)
+        l.one.tickets_differ l.there)
         (within_after_remove b.entries a.entries b'.entries a'.entries m.0 n.0 m.2 n.2 (sym st)
-        w.tickets_differ l.back)
+        l.other.tickets_differ l.back)
 
     recover_same : (is_dead answer : T → Bool) (t u : ReleaseState)
         → RecoverStep {F = Unit {0}} (λ _ d goes _. goes ≡ answer d) is_dead a tt mode t a' tt
@@ -170,80 +153,57 @@ module _ {T : Type 0} (a b a' b' : RegistryState T) (l : SameContents a b) (v : 
         (rw (ea, eb) (within_after_filter keep a.entries b.entries l.there))
         (rw (ea, eb) (within_after_filter keep b.entries a.entries l.back))
 
--- the handles in two lists of replies, slot by slot
-abbrev AllAgree : {T : Type 0} → List (RegistryReply T) → List (RegistryReply T) → Type 0
-AllAgree xs ys = AllZip (λ x y. TicketsAgree (given_by x) (given_by y)) xs ys
-
-agree_at : {T : Type 0} (xs ys : List (RegistryReply T)) (k : ℕ) → AllAgree xs ys
-    → TicketsAgree (handle_given xs k) (handle_given ys k)
-agree_at [] [] k a = tt
-agree_at (x ∷ xs) (y ∷ ys) zero a = a.0
-agree_at (x ∷ xs) (y ∷ ys) (suc k) a = agree_at xs ys k a.1
-agree_at xs ys k a = absurd a
-
 module _ {T : Type 0} (a b a' b' : ContainerState T) (l : SameContents a.registry b.registry)
-    (v : IsRegistry a.registry) (w : IsRegistry b.registry) where
+    (v : IsRegistry a'.registry) (w : IsRegistry b'.registry) where
   -- where nothing changed
   outcome_still : (r r' s s' : RegistryReply T) → r ≡ r' → s ≡ s' → a' ≡ a → b' ≡ b
-      → SameReply r' s' → TicketsAgree (given_by r') (given_by s')
+      → SameReply r' s' → KnowBoth a.registry b.registry (given_by r') (given_by s')
       → Outcome a'.registry b'.registry r s
-  outcome_still r r' s s' e f ea eb same t =
-      rw (e, f, ea, eb) (record { same = same; alike = l; tickets = t })
+  outcome_still r r' s s' e f ea eb same k = grind arith
 
-  module _ (v' : IsRegistry a'.registry) (w' : IsRegistry b'.registry) where
-    given_same : (mode : ReleaseMode) (o p : Option Handle) (r s : RegistryReply T)
-        → TicketsAgree o p → KnowsGiven a.registry o → KnowsGiven b.registry p
-        → RemoveGiven a o mode r a' → RemoveGiven b p mode s b'
-        → Outcome a'.registry b'.registry r s
-    given_same mode None None r s e ka kb p q =
-        outcome_still r Reply.NoHandle s Reply.NoHandle p.0 q.0 p.1 q.1 refl tt
-    given_same mode (Some h) (Some k) r s e ka kb p q =
-        rw (p.reply_is, q.reply_is)
-        (remove_same a.registry b.registry a'.registry b'.registry l v w v' w' mode h k p.result
-        q.result e ka kb p.step.step q.step.step)
-    given_same mode o p r s e ka kb u q = absurd e
+  given_same : (mode : ReleaseMode) (one other : Option Handle) (r s : RegistryReply T)
+      → KnowBoth a.registry b.registry one other → RemoveGiven a one mode r a'
+      → RemoveGiven b other mode s b' → Outcome a'.registry b'.registry r s
+  given_same mode None None r s k p q = grind (arith, outcome_still)
+  given_same mode (Some h) (Some i) r s k p q =
+      rw (p.reply_is, q.reply_is)
+      (remove_same l v w mode h i p.result q.result k p.step.step q.step.step)
+  given_same mode one other r s k p q = absurd k
 
-    call_same : (node number : T → ℕ) (xs ys : List (RegistryReply T)) (call : RegistryCall T)
-        (r s : RegistryReply T) → AllKnown a.registry xs → AllKnown b.registry ys
-        → AllAgree xs ys → CallStep node number a xs call r a'
-        → CallStep node number b ys call s b' → Outcome a'.registry b'.registry r s
-    call_same node number xs ys (Call.Add d) r s ka kb e p q =
-        rw (p.reply_is, q.reply_is)
-        (add_same a.registry b.registry a'.registry b'.registry l v w d p.result q.result
-        p.step.step q.step.step)
-    call_same node number xs ys (Call.Remove k mode) r s ka kb e p q =
-        given_same mode (handle_given xs k) (handle_given ys k) r s (agree_at xs ys k e)
-        (known_at a.registry xs k ka) (known_at b.registry ys k kb) p q
-    call_same node number xs ys (Call.Recover dead keys mode) r s ka kb e p q =
-        rw (p.reply_is, q.reply_is)
-        (recover_same a.registry b.registry a'.registry b'.registry l v w v' w' mode
-        (is_of node dead) (is_outside number keys.items) p.result q.result p.step.step q.step.step)
-    call_same node number xs ys Call.List r s ka kb e p q =
-        outcome_still r (Reply.Entries p.result) s (Reply.Entries q.result) p.reply_is q.reply_is
-        p.step.1 q.step.1
-        (rw (p.step.0, q.step.0) (same_listed a.registry b.registry l.there l.back v w)) tt
-    call_same node number xs ys Call.Len r s ka kb e p q =
-        outcome_still r (Reply.Count (length a.registry.entries)) s
-        (Reply.Count (length b.registry.entries)) p.0 q.0 p.1 q.1
-        (ap Reply.Count (same_length a.registry b.registry l.there l.back v w)) tt
+  call_same : (node number : T → ℕ) (xs ys : List (RegistryReply T)) (call : RegistryCall T)
+      (r s : RegistryReply T) → KnowAll a.registry b.registry xs ys
+      → CallStep node number a xs call r a' → CallStep node number b ys call s b'
+      → Outcome a'.registry b'.registry r s
+  call_same node number xs ys (Call.Add d) r s k p q =
+      rw (p.reply_is, q.reply_is)
+      (add_same l v w d p.result q.result p.step.step q.step.step)
+  call_same node number xs ys (Call.Remove i mode) r s k p q =
+      given_same mode (handle_given xs i) (handle_given ys i) r s
+      (both_at a.registry b.registry xs ys i k) p q
+  call_same node number xs ys (Call.Recover dead keys mode) r s k p q =
+      rw (p.reply_is, q.reply_is)
+      (recover_same l v w mode (is_of node dead) (is_outside number keys.items) p.result q.result
+      p.step.step q.step.step)
+  call_same node number xs ys Call.List r s k p q = grind (arith, same_listed, outcome_still)
+  call_same node number xs ys Call.Len r s k p q = grind (arith, as_long, outcome_still)
 
 run_same : {T : Type 0} (node number : T → ℕ) (a b a' b' : ContainerState T)
     (xs ys : List (RegistryReply T)) (calls : List (RegistryCall T))
     (rs ss : List (RegistryReply T)) → SameContents a.registry b.registry
-    → IsRegistry a.registry → IsRegistry b.registry → AllKnown a.registry xs
-    → AllKnown b.registry ys → AllAgree xs ys → CallRun node number a xs calls rs a'
+    → KnowAll a.registry b.registry xs ys → CallRun node number a xs calls rs a'
     → CallRun node number b ys calls ss b' → SameKind rs ss
-run_same node number a b a' b' xs ys [] [] [] l v w ka kb e p q = tt
-run_same node number a b a' b' xs ys [] (r ∷ rs) ss l v w ka kb e p q = absurd p
-run_same node number a b a' b' xs ys [] [] (s ∷ ss) l v w ka kb e p q = absurd q
-run_same node number a b a' b' xs ys (c ∷ cs) [] ss l v w ka kb e p q = absurd p
-run_same node number a b a' b' xs ys (c ∷ cs) (r ∷ rs) [] l v w ka kb e p q = absurd q
-run_same {T} node number a b a' b' xs ys (c ∷ cs) (r ∷ rs) (s ∷ ss) l v w ka kb e p q =
-    let o = call_same a b p.0 q.0 l v w p.2 q.2 node number xs ys c r s ka kb e p.1 q.1 in (
+run_same node number a b a' b' xs ys [] [] [] l k p q = tt
+run_same node number a b a' b' xs ys [] (r ∷ rs) ss l k p q = absurd p
+run_same node number a b a' b' xs ys [] [] (s ∷ ss) l k p q = absurd q
+run_same node number a b a' b' xs ys (c ∷ cs) [] ss l k p q = absurd p
+run_same node number a b a' b' xs ys (c ∷ cs) (r ∷ rs) [] l k p q = absurd q
+run_same {T} node number a b a' b' xs ys (c ∷ cs) (r ∷ rs) (s ∷ ss) l k p q =
+    let o = call_same a b p.0 q.0 l p.2 q.2 node number xs ys c r s k p.1 q.1 in
+    let known = all_on a.registry b.registry p.0.registry q.0.registry
+    (grows_call node number a xs r p.0 c p.1) (grows_call node number b ys s q.0 c q.1) xs ys k in (
       o.same,
-      run_same node number p.0 q.0 a' b' (xs ++ r ∷ []) (ys ++ s ∷ []) cs rs ss o.alike p.2 q.2
-          (known_on node number a xs c r p.0 v p.1 ka) (known_on node number b ys c s q.0 w q.1 kb)
-          (AllZip-push _ xs ys r s e o.tickets) p.3 q.3,
+      run_same node number p.0 q.0 a' b' (xs ++ r ∷ []) (ys ++ s ∷ []) cs rs ss o.alike
+          (AllZip-push _ xs ys r s known o.handles) p.3 q.3,
     )
 
 -- the same calls on two new registries give replies of one kind
@@ -255,10 +215,12 @@ pub same_kind : {T : Type 0} (node number : T → ℕ) (a b a' b' : ContainerSta
 same_kind node number a b a' b' calls rs ss n c g p q =
     run_same node number a b a' b' ([]) ([]) calls rs ss
     (record {
+      one = new_is_registry a.registry n.0;
+      other = new_is_registry b.registry n.1;
       capacity = c;
       budget = g;
       used = n.0.2 ∙ sym n.1.2;
       locked = n.0.1 ∙ sym n.1.1;
       there = nothing_within a.registry.entries b.registry.entries n.0.0;
       back = nothing_within b.registry.entries a.registry.entries n.1.0;
-    }) (new_is_registry a.registry n.0) (new_is_registry b.registry n.1) tt tt tt p q
+    }) tt p q

@@ -1,10 +1,9 @@
 -- Lists of entries that hold the same details with the same tickets, whatever their slots are.
-use Rattle.std.proofs.Common.{arith}
-use Rattle.iox2_container.proofs.Prelude.{[], ◌∙◌, ◌∷◌, ◌≡◌, ◌≢◌, Bool, IsPermutation, IsPermutation-cons, IsPermutation-middle, IsPermutation-refl, IsPermutation-sym, IsPermutation-trans, List, ℕ, ap, filter, inl, inr, map-append, refl, subst, sym}
-use Rattle.iox2_container.specs.Prelude.{Entry, InsertsOne}
+use Rattle.iox2_container.proofs.Prelude.{Bool, Entry, InsertsOne, IsPermutation, IsPermutation-cons, IsPermutation-middle, IsPermutation-refl, IsPermutation-sym, IsPermutation-trans, List, [], ap, arith, filter, inl, inr, map-append, refl, subst, sym, ℕ, ◌∙◌, ◌∷◌, ◌≡◌, ◌≢◌}
 use Rattle.iox2_container.proofs.Keeping.{AllPairs-loss}
 use Rattle.iox2_container.proofs.CallsInTurn.{details_of}
-use Rattle.iox2_container.proofs.Members.{Among, gained, among_more, among_less, without, DifferBy, head_differs, rest_differ, other_differs, filter_from, filter_to}
+use Rattle.iox2_container.proofs.Gaining.{AllPairs-head, AllPairs-tail}
+use Rattle.iox2_container.proofs.Members.{Among, gained, among_more, among_less, of_all, without, DifferBy, other_differs, filter_from, filter_to}
 
 abbrev pub ticket_in : {T : Type 0} → Entry T → ℕ
 ticket_in x = x.ticket
@@ -34,14 +33,15 @@ same_members {T} (x ∷ xs) ys p q f g =
     let h = f x.ticket x.details (x, inl refl, refl, refl) in
     let w = without ys h.0 h.1 in
     let others =
-    same_members xs w.rest (rest_differ ticket_in x xs p)
+    same_members xs w.rest (AllPairs-tail (λ v w. ticket_in v ≢ ticket_in w) x xs p)
     (AllPairs-loss (λ (v w : Entry T). v.ticket ≢ w.ticket) w.rest ys h.0 w.gains q)
     (λ t d k.
     let z = f t d (k.0, inr k.1, k.2, k.3) in
     elim (among_less w.rest ys h.0 z.0 w.gains z.1) [
       | inl m ↦ (z.0, m, z.2, z.3)
       | inr e ↦ absurd
-          (head_differs ticket_in x xs k.0 p k.1
+          (of_all (λ w. ticket_in x ≢ ticket_in w) xs k.0
+          (AllPairs-head (λ v w. ticket_in v ≢ ticket_in w) x xs p) k.1
           (h.2 ∙ (sym (ap ticket_in e) ∙ (sym z.2 ∙ k.2))))
     ])
     (λ t d k.

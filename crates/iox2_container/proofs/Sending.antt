@@ -1,11 +1,10 @@
 -- Registries may be sent to another thread, if their details may.
-use Rattle.std.proofs.Common.{rules}
+use Rattle.iox2_container.proofs.Prelude.{rules}
 use denote.RattleType.{RattleType}
 use denote.Enum.Declared as enum
 use denote.Enum.Enum.{Enum}
-use denote.Struct.Field.{row_field, u64-field}
-use denote.Param.Send.{IsSend, enum_send, owning_send, recorded_send, sendable, view_send}
-use denote.Param.SendFields.{as_row_send, declared_send}
+use denote.Struct.Field.{u64-field}
+use denote.Param.Send.{IsSend, enum_send, owning_send, recorded_send, sendable}
 use Rattle.std.proofs.Crossing.{crosses}
 use Rattle.std.specs.contracts.option.Option as Option
 use Rattle.std.specs.contracts.prelude.OptionDebug.TheImpl as OptionDebug
@@ -15,7 +14,6 @@ use Rattle.std.specs.declared.fmt.Debug.{Ghosts as DebugGhosts}
 use Rattle.iox2_container.specs.contracts.container.cell.Cell as Cell
 use Rattle.iox2_container.specs.contracts.container.free.FreeList as FreeList
 use Rattle.iox2_container.specs.contracts.container.free.FreeListSlotAllocator.TheImpl as FreeListSlotAllocator
-use Rattle.iox2_container.specs.contracts.container.counted_map.RegistryHeader as RegistryHeader
 use Rattle.iox2_container.specs.contracts.container.slot_map.SlotMap as SlotMap
 use Rattle.iox2_container.specs.contracts.container.slot_map.SlotMap.TheInside as SlotMapInside
 use Rattle.iox2_container.specs.contracts.container.counted_map.CountedMap.TheInside as Inside
@@ -31,12 +29,6 @@ Touches-send = owning_send Touches.the_type tt (λ d. tt) (λ k x w. tt)
 pub Slots-send : (C : RattleType) → IsSend C → IsSend (Slots.the_row C)
 Slots-send C s = search (crosses, sendable, Touches-send) depth 20
 
-RegistryHeader-send : IsSend RegistryHeader.the_row
-RegistryHeader-send = search sendable depth 20
-
-FreeList-send : IsSend FreeList.the_row
-FreeList-send = search sendable depth 20
-
 Cell-send : (T N : RattleType) → IsSend T → IsSend N → IsSend (Cell.the_row T N)
 Cell-send T N t n =
     recorded_send (Enum (enum.shape (Cell.the_type T N))) _ _ ((Cell.the_type T N).to_one)
@@ -45,32 +37,20 @@ Cell-send T N t n =
 -- slots
 module _ (T N : RattleType) where
   EntrySlots-send : IsSend T → IsSend N → IsSend (EntrySlots.the_row T N)
-  EntrySlots-send t n =
-      view_send (EntrySlotsInside.the_row T N) _ _ _ _
-      (declared_send (EntrySlotsInside.the_type T N) (Slots-send _ (Cell-send T N t n), tt))
+  EntrySlots-send t n = search (crosses, sendable, Slots-send, Cell-send) depth 20
 
 -- any slot map
 module _ (T S N : RattleType) (slots : SlotAllocatorGhosts S.Denot T.Denot N.Denot)
     (debug : DebugGhosts N.Denot) where
   inside_send : IsSend T → IsSend S → IsSend N → IsSend (Inside.the_row T S N slots debug)
-  inside_send t s n =
-      declared_send (Inside.the_type T S N slots debug) (
-        RegistryHeader-send,
-        (EntrySlots-send T N t n, (as_row_send (row_field S) s, (search sendable, tt))),
-      )
+  inside_send t s n = search (crosses, sendable, EntrySlots-send) depth 30
 
   pub SlotMap-send : IsSend T → IsSend S → IsSend N → IsSend (SlotMap.the_row T S N slots debug)
-  SlotMap-send t s n =
-      view_send (SlotMapInside.the_row T S N slots debug) _ _ _ _
-      (declared_send (SlotMapInside.the_type T S N slots debug)
-      (view_send (Inside.the_row T S N slots debug) _ _ _ _ (inside_send t s n), tt))
+  SlotMap-send t s n = search (crosses, sendable, inside_send) depth 30
 
 -- that of a free list
-next : IsSend (Option.the_row u64-field.row)
-next = search sendable depth 20
-
 pub ListContainer-send : (T : RattleType) (clone : CloneGhosts T.Denot) → IsSend T
     → IsSend (SlotMap.the_row T FreeList.the_row (Option.the_row u64-field.row)
     (FreeListSlotAllocator.ghosts T clone FreeListSlotAllocator.no_dict)
     (OptionDebug.ghosts u64-field.row UsizeDebug.ghosts OptionDebug.no_dict))
-ListContainer-send T clone s = search (rules, SlotMap-send, FreeList-send, next)
+ListContainer-send T clone s = search (rules, sendable, SlotMap-send) depth 20

@@ -1,5 +1,5 @@
 -- Numbers of services rise.
-use Rattle.iox2_container.proofs.Prelude.{[], ◌<◌, ◌∷◌, ◌≤◌, All, All-cons, All-nil, AllPairs-cons, List, ℕ, arith}
+use Rattle.iox2_container.proofs.Prelude.{All, All-cons, All-nil, AllPairs-cons, List, [], arith, ℕ, ◌<◌, ◌∷◌, ◌≤◌}
 use Rattle.iox2_container.specs.ServiceNumbers.{ReturnInTurn, NumbersRise}
 
 -- each is greater than the last one before them

@@ -1,7 +1,5 @@
 -- What cells show.
-use Rattle.std.proofs.Common.{arith}
-use Rattle.iox2_container.proofs.Prelude.{◌∙◌, ◌∷◌, ◌≡◌, List, None, Option, Some, ℕ, ap, map, map-set, refl, replicate, slice_get, slice_get-map, slice_set, suc, zero}
-use Rattle.iox2_container.specs.Prelude.{Cell, Free, Occupant, shown}
+use Rattle.iox2_container.proofs.Prelude.{Cell, Free, List, None, Occupant, Option, Some, ap, arith, map, map-set, refl, replicate, shown, slice_get, slice_get-map, suc, zero, ℕ, ◌∷◌, ◌≡◌}
 
 nothing_shown : {T N : Type 0} (next : N) (n : ℕ)
     → map (shown {T = T} {N = N}) (replicate n (Free next)) ≡ replicate n None

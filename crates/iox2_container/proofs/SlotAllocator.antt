@@ -1,6 +1,5 @@
 -- What a change does to slots of which the free ones are in a list.
-use Rattle.iox2_container.proofs.Prelude.{[], ◌+◌, ◌<◌, ◌∙◌, ◌∷◌, ◌≡◌, ◌≢◌, ◌≤◌, All, All-cons, All-head, All-nil, All-tail, List, None, Option, Some, ℕ, ap, arith, length, length-set, map, map-set, refl, replicate, slice_get, slice_get_within, slice_set, subst, sym}
-use Rattle.iox2_container.specs.Prelude.{Entry, Free, IsFreeAt, IsFreeList, IsTakenAt, LeadsThrough, Linked, PutsFirst, Taken, TakesFirst, TakesLastFreed, entries_from, shown}
+use Rattle.iox2_container.proofs.Prelude.{All, All-cons, All-head, All-nil, All-tail, Entry, Free, IsFreeAt, IsFreeList, IsTakenAt, LeadsThrough, Linked, List, None, Option, PutsFirst, Some, Taken, TakesFirst, TakesLastFreed, [], ap, arith, entries_from, length, length-set, map, map-set, refl, replicate, shown, slice_get, slice_get_within, slice_set, subst, sym, ℕ, ◌+◌, ◌<◌, ◌∙◌, ◌∷◌, ◌≡◌, ◌≢◌, ◌≤◌}
 use Rattle.iox2_container.specs.declared.container.free.FreeList.{FreeList}
 use Rattle.iox2_container.proofs.CellEntries.{gains_write, gains_clear, nothing_stands}
 use Rattle.iox2_container.proofs.Gaining.{length-InsertsOne}
@@ -61,17 +60,8 @@ module _ {T : Type 0} (cells : List (Linked T)) (l : FreeList) (slot : ℕ) (m :
       → standing cells + length freed ≡ l.fresh → LeadsThrough cells m.head left
       → All (λ other. other ≢ slot) left → TakesLastFreed freed l.fresh slot left m.fresh
       → Took cells slot m
-  took_by t [] left room free below counted th apart (at, none, next) = record {
-    at = rw at (cell_free cells l.fresh (omega arith) (t.fresh_are_free l.fresh (omega arith)));
-    free = left;
-    threads = th;
-    apart = apart;
-    used_before = rw none (All-nil (λ other. other < m.fresh));
-    before = omega (arith, at, next);
-    fresh_are_free = λ other n. t.fresh_are_free other (omega (arith, next));
-    all_counted = omega (arith, next, ap length none);
-    fresh_within = omega (arith, next);
-  }
+  took_by t [] left room free below counted th apart (at, none, next) =
+      grind (arith, cell_free, t.fresh_are_free, All-nil)
   took_by t (s ∷ slots) left room free below counted th apart (at, rest, next) = record {
     at = rw at (All-head (IsFreeAt cells) s slots free);
     free = left;

@@ -1,6 +1,5 @@
 -- What a sweep leaves.
-use Rattle.iox2_container.proofs.Prelude.{[], ◌++◌, ◌+◌, ◌<◌, ◌==◌, ◌∙◌, ◌∷◌, ◌≡◌, ◌≤◌, All, All-filter, All-head, All-tail, All-weaker, Bool, IsTrue, List, None, Option, Some, ℕ, add-one, ap, append-nil, arith, eq-eqb, false, filter-append, if◌then◌else◌, inl, inr, leb_tells, length, length-append, length-set, length-take, map, map-append, ne_eqb, not, refl, slice_get, slice_get_within, slice_set, subst, suc, sym, take, true, zero}
-use Rattle.iox2_container.specs.Prelude.{AreOthers, Entry, Occupant, SlotIsOf, Swept, candidates, cell_is_of, entries_from, is_leaving, is_of, occupant, staying}
+use Rattle.iox2_container.proofs.Prelude.{All, All-filter, All-head, All-tail, All-weaker, AreOthers, Bool, Entry, List, None, Occupant, Option, SlotIsOf, Some, Swept, [], add-one, ap, append-nil, arith, candidates, cell_is_of, entries_from, eq-eqb, false, filter-append, if◌then◌else◌, inl, inr, is_leaving, is_of, leb_tells, length, length-append, length-set, length-take, map, map-append, ne_eqb, not, occupant, refl, slice_get, slice_get_within, slice_set, staying, subst, suc, sym, take, true, zero, ℕ, ◌++◌, ◌+◌, ◌<◌, ◌==◌, ◌∙◌, ◌∷◌, ◌≡◌, ◌≤◌}
 use Rattle.iox2_container.proofs.CallsInTurn.{CalledInTurn-push, details_of, taken_more, taken_free}
 use Rattle.iox2_container.proofs.CellEntries.{below_from}
 use Rattle.iox2_container.proofs.ListEdits.{get_set_other}
@@ -43,20 +42,12 @@ unless x true = refl
 unless x false = refl
 
 -- one entry more, after those swept: another one, or one that the callback is called on
-module _ {F T : Type 0} (calls : F → T → Bool → F → Type 0) (is_dead : T → Bool) (f g : F)
-    (old new : List (Entry T)) (gone : ℕ) (x : Entry T) (w : Swept calls is_dead f old g new gone)
+module _ {F T : Type 0} {calls : F → T → Bool → F → Type 0} {is_dead : T → Bool} {f g : F}
+    {old new : List (Entry T)} {gone : ℕ} (x : Entry T) (w : Swept calls is_dead f old g new gone)
   where
     swept_other : is_dead x.details ≡ false
         → Swept calls is_dead f (old ++ x ∷ []) g (new ++ x ∷ []) gone
-    swept_other e = record {
-      marked = w.marked;
-      called = rw (filter-append (λ (v : Entry T). is_dead v.details) old (x ∷ []), e, append-nil)
-          w.called;
-      left_is =
-          rw (filter-append (λ (v : Entry T). not (is_leaving is_dead w.marked v)) old (x ∷ []), e)
-          (ap (λ l. l ++ x ∷ []) w.left_is);
-      gone_is = omega (arith, w.gone_is, length-append new (x ∷ []), length-append old (x ∷ []));
-    }
+    swept_other e = grind (arith, filter-append, append-nil, length-append)
 
     swept_one : (h : F) (goes : Bool) → All (λ v. v.slot < x.slot) old → is_dead x.details ≡ true
         → calls g x.details goes h
@@ -119,8 +110,8 @@ left_more m i x true im e = grind (arith, append-nil, cleared, slice_get_within)
 left_more m i x false im e = grind (arith, taken_more)
 
 -- one cell more is swept
-module _ {F T : Type 0} (calls : F → T → Bool → F → Type 0) (node : T → ℕ) (id : ℕ) (f g : F)
-    (cs m : List (Option (Occupant T))) (i gone : ℕ)
+module _ {F T : Type 0} {calls : F → T → Bool → F → Type 0} {f g : F} {gone : ℕ}
+    (node : T → ℕ) (id : ℕ) (cs m : List (Option (Occupant T))) (i : ℕ)
     (w : Swept calls (is_of node id) f (entries_from 0 (take i cs)) g (entries_from 0 (take i m))
     gone) where
   pub past_cell : (cell : Option (Occupant T)) → slice_get cs i ≡ Some cell
@@ -131,8 +122,7 @@ module _ {F T : Type 0} (calls : F → T → Bool → F → Type 0) (node : T �
   past_cell (Some o) is im e =
       let x : Entry T = record { slot = i; ticket = o.ticket; details = o.details } in
       rw (taken_more 0 i cs x is (omega arith), taken_more 0 i m x im (omega arith))
-      (swept_other calls (is_of node id) f g (entries_from 0 (take i cs))
-      (entries_from 0 (take i m)) gone x w (sym e))
+      (swept_other x w (sym e))
 
   pub found_cell : (h : F) (goes : Bool) (x : Entry T) → x.slot ≡ i
       → slice_get cs i ≡ Some (Some (occupant x.ticket x.details))
@@ -143,8 +133,7 @@ module _ {F T : Type 0} (calls : F → T → Bool → F → Type 0) (node : T �
       (gone + (if goes then 1 else 0))
   found_cell h goes x at is im e called =
       rw (taken_more 0 i cs x is (omega arith), ← left_more m i x goes im at)
-      (swept_one calls (is_of node id) f g (entries_from 0 (take i cs)) (entries_from 0 (take i m))
-      gone x w h goes (rw at (below_taken i cs)) e called)
+      (swept_one x w h goes (rw at (below_taken i cs)) e called)
 
 -- what holds at a slot, and goes on over each slot where no entry of the node stands, holds at
 -- the end of such slots
@@ -160,13 +149,6 @@ over_others node id cells P i (suc j) l others step p =
           (over_others node id cells P i j k.1 (λ m a b. others m a (omega arith)) step p))
       | inr k ↦ (let e : i ≡ suc j = omega (arith, k.1) in subst P e p)
     ]
-
--- the cells after one was swept
-pub cells_swept : {C : Type 0} (m n : List (Option C)) (i : ℕ) (goes : Bool)
-    → (IsTrue goes → n ≡ slice_set m i None) → (goes ≡ false → n ≡ m)
-    → n ≡ (if goes then slice_set m i None else m)
-cells_swept m n i true t f = t refl
-cells_swept m n i false t f = f refl
 
 pub later_kept : {C : Type 0} (cs m n : List (Option C)) (i : ℕ) (goes : Bool)
     → n ≡ (if goes then slice_set m i None else m)

@@ -1,6 +1,5 @@
 -- Callbacks that count what they are called on.
-use Rattle.iox2_container.proofs.Prelude.{[], ◌+◌, ◌<◌, ◌∙◌, ◌∷◌, ◌≡◌, List, ℕ, ap, arith, inl, inr, length, refl}
-use Rattle.iox2_container.specs.Prelude.{CalledInTurn, CallbackProgression, CanBeCalled, CanVisit, Continue, Stop, Visit, Visits}
+use Rattle.iox2_container.proofs.Prelude.{CallbackProgression, CalledInTurn, CanBeCalled, CanVisit, Continue, List, Visit, Visits, [], ap, arith, inl, inr, length, refl, ℕ, ◌+◌, ◌<◌, ◌∙◌, ◌∷◌, ◌≡◌}
 use Rattle.iox2_container.proofs.Callable.{CalledInTurn-keeps, CanBeCalled-by, CanVisit-by}
 
 -- a callback that counts one more at each call, and may be called while the count is below a bound
@@ -45,11 +44,8 @@ module _ {F A N : Type 0} (calls : F → A → CallbackProgression → F → Typ
   tallied_visits : (f : F) (items : List A) (h : F) → Visits calls f items h → (name h ≡ name f)
       × (count h ≡ count f + length items)
   tallied_visits f [] h done = (ap name done, omega (arith, ap count done))
-  tallied_visits f (x ∷ xs) h (inl stopped) =
-      (let z : Stop ≡ Continue = (step f x Stop h stopped).1 in cc)
-  tallied_visits f (x ∷ xs) h (inr goes) =
-      let s = step f x Continue goes.0 goes.1 in
-      let t = tallied_visits goes.0 xs h goes.2 in (t.0 ∙ s.0, omega (arith, t.1, s.2))
+  tallied_visits f (x ∷ xs) h (inl stopped) = grind (arith, step)
+  tallied_visits f (x ∷ xs) h (inr goes) = grind (arith, step, tallied_visits goes.0 xs h goes.2)
 
   pub tallied_visit : (f : F) (items : List A) (h : F) → Visit calls f items h → (name h ≡ name f)
       × (count h ≡ count f + length items)

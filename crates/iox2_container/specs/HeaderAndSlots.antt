@@ -18,10 +18,10 @@ registry_of a cells = record {
   used = a.used;
 }
 
--- header and cells fit together
-abbrev pub AreRegistry : {T : Type 0} → RegistryHeader → List (Option (Occupant T)) → Type 0
-AreRegistry a cells = IsRegistry (registry_of a cells) × (a.count ≡ length (entries_from 0 cells))
-
--- this is just behind the slot of the entry that came last, while it is there
-abbrev pub IsNewestEnd : {T : Type 0} → RegistryState T → ℕ → Type 0
-IsNewestEnd r newest_end = All (λ e. e.ticket + 1 ≡ r.used → newest_end ≡ e.slot + 1) r.entries
+-- header and cells fit together, and the end is
+-- just behind the slot of the entry that came last, while it is there
+pub record AreRegistry {T : Type 0} (a : RegistryHeader) (cells : List (Option (Occupant T)))
+    (newest_end : ℕ) : Type 0 where
+  pub registry : IsRegistry (registry_of a cells)
+  pub counted : a.count ≡ length (entries_from 0 cells)
+  pub newest : All (λ e. e.ticket + 1 ≡ a.used → newest_end ≡ e.slot + 1) (entries_from 0 cells)

@@ -17,5 +17,3 @@ pub mod SlotEntries
 pub mod Passes
 pub mod HeaderAndSlots
 pub mod FreeList
--- All of them together, for proofs
-pub mod Prelude

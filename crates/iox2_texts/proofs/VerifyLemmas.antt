@@ -1,5 +1,5 @@
 -- Lemmas on what a verifier finds missing.
-use Rattle.std.proofs.Common.{◌≡◌, ℕ, ◌+◌, ◌-◌, ◌<◌, ◌≤◌, Bool, Option, None, Some, false, List, length, get_or, take, drop, map, ap, sym, ◌∙◌, subst, inl, inr, arith, take_all, true≢false, refl}
+use Rattle.std.proofs.Common.{◌≡◌, ℕ, ◌+◌, ◌-◌, ◌<◌, ◌≤◌, Bool, Option, None, Some, false, List, length, get_or, take, drop, map, ap, sym, ◌∙◌, subst, inl, inr, arith, take_all, true≢false}
 use Rattle.std.specs.Prelude.{All, Any, Contains, IsSorted, IsTrue, ◌↔◌, MatchOption, option_map}
 use Rattle.std.specs.Ordering.{is_lt}
 use Rattle.std.specs.Cmp.{IsTotalOrder, on_total, then_total}
@@ -15,9 +15,7 @@ use Rattle.iox2_texts.specs.Verify.{Finds, IsFirstMissing, IsLeastMissing, Misse
 
 -- the order of pairs is total
 pub pair_cmp_total : IsTotalOrder pair_cmp
-pair_cmp_total =
-    then_total (on_total (λ p. p.key) nat_list_cmp_total)
-    (on_total (λ p. p.value) nat_list_cmp_total)
+pair_cmp_total = grind (arith, on_total, then_total, nat_list_cmp_total)
 
 -- where the first `i` are all of them
 pub all_of_take : {X : Type 0} (P : X → Type 0) (xs : List X) (i : ℕ) → length xs ≤ i
@@ -77,13 +75,7 @@ pub Misses-same : {X : Type 0} (P Q : X → Type 0) (xs : List X) (r : Option �
     → ((x : X) → P x ↔ Q x) → Misses P xs r
     → Misses Q xs r
 Misses-same P Q xs None same misses = All-weaker P Q (λ x. (same x).0) xs misses
-Misses-same P Q xs (Some i) same misses =
-    let (x, is, missing, before) = misses in (
-      x,
-      is,
-      λ met. missing ((same x).1 met),
-      All-weaker P Q (λ y. (same y).0) (take i xs) before,
-    )
+Misses-same P Q xs (Some i) same misses = grind (arith, All-weaker)
 
 -- and so of what is made of each element
 pub Misses-map : {X Y : Type 0} (f : X → Y) (P : Y → Type 0) (xs : List X) (r : Option ℕ)
@@ -100,11 +92,7 @@ Misses-map f P xs (Some i) misses =
 
 -- a list has what one of its elements is
 pub Contains-Any : {X : Type 0} (xs : List X) (x : X) → Any (λ y. y ≡ x) xs ↔ Contains xs x
-Contains-Any xs x = (
-  λ some.
-      let (k, y, inside, is, same) = some in (k, inside, subst (λ z. get_or xs k z ≡ z) same is),
-  λ has. (has.0, x, has.1, has.2, refl),
-)
+Contains-Any xs x = grind arith
 
 -- the first that is missing of required pairs that rise is the least
 pub least_missing : (required pairs : List Pair) (i : ℕ) (item : Pair)

@@ -50,15 +50,6 @@ impl Event {
     pub fn copied(&self) -> Self
         ensures { result ≡ self.now }
     {
-        Event {
-            max_listeners: self.max_listeners,
-            max_notifiers: self.max_notifiers,
-            max_nodes: self.max_nodes,
-            event_id_max_value: self.event_id_max_value,
-            deadline: self.deadline,
-            notifier_created_event: self.notifier_created_event,
-            notifier_dropped_event: self.notifier_dropped_event,
-            notifier_dead_event: self.notifier_dead_event,
-        }
+        Event { ..*self }
     }
 }

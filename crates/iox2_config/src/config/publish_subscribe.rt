@@ -60,18 +60,6 @@ impl PublishSubscribe {
     pub fn copied(&self) -> Self
         ensures { result ≡ self.now }
     {
-        PublishSubscribe {
-            max_subscribers: self.max_subscribers,
-            max_publishers: self.max_publishers,
-            max_nodes: self.max_nodes,
-            subscriber_max_buffer_size: self.subscriber_max_buffer_size,
-            subscriber_max_borrowed_samples: self.subscriber_max_borrowed_samples,
-            publisher_max_loaned_samples: self.publisher_max_loaned_samples,
-            publisher_history_size: self.publisher_history_size,
-            enable_safe_overflow: self.enable_safe_overflow,
-            backpressure_strategy: self.backpressure_strategy,
-            subscriber_expired_connection_buffer: self.subscriber_expired_connection_buffer,
-            publisher_allocation_strategy: self.publisher_allocation_strategy,
-        }
+        PublishSubscribe { ..*self }
     }
 }

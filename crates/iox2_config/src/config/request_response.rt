@@ -77,24 +77,6 @@ impl RequestResonse {
     pub fn copied(&self) -> Self
         ensures { result ≡ self.now }
     {
-        RequestResonse {
-            enable_safe_overflow_for_requests: self.enable_safe_overflow_for_requests,
-            enable_safe_overflow_for_responses: self.enable_safe_overflow_for_responses,
-            max_active_requests_per_client: self.max_active_requests_per_client,
-            max_response_buffer_size: self.max_response_buffer_size,
-            max_servers: self.max_servers,
-            max_clients: self.max_clients,
-            max_nodes: self.max_nodes,
-            max_borrowed_responses_per_pending_response: self.max_borrowed_responses_per_pending_response,
-            max_loaned_requests: self.max_loaned_requests,
-            server_max_loaned_responses_per_request: self.server_max_loaned_responses_per_request,
-            client_backpressure_strategy: self.client_backpressure_strategy,
-            server_backpressure_strategy: self.server_backpressure_strategy,
-            client_expired_connection_buffer: self.client_expired_connection_buffer,
-            server_expired_connection_buffer: self.server_expired_connection_buffer,
-            enable_fire_and_forget_requests: self.enable_fire_and_forget_requests,
-            client_allocation_strategy: self.client_allocation_strategy,
-            server_allocation_strategy: self.server_allocation_strategy,
-        }
+        RequestResonse { ..*self }
     }
 }

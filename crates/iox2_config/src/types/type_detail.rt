@@ -181,10 +181,8 @@ impl TypeDetail {
         ensures { result ≡ self.now }
     {
         TypeDetail {
-            variant: self.variant,
             type_name: self.type_name.copied(),
-            size: self.size,
-            alignment: self.alignment,
+            ..*self
         }
     }
 }

@@ -66,7 +66,7 @@ pub struct CountedMap<T: Copy, S: SlotAllocator<T>> {
     pub(super) header: RegistryHeader,
     pub(super) slots: EntrySlots<T, S::Next>,
     pub(super) free: S,
-    // Behind the slot of the entry that came last, whose node is likely to be asked for next.
+    // Just behind the slot of the entry that came last: the next query is likely about its node.
     pub(super) newest_end: usize,
 }
 
@@ -74,7 +74,7 @@ impl<T: Copy, S: SlotAllocator<T>> Model for CountedMap<T, S> {
     ghost use Rattle.std.specs.Prelude.{map};
     ghost use Rattle.iox2_container.specs.Cells.{shown};
     ghost use Rattle.iox2_container.specs.ContainerState.{ContainerState};
-    ghost use Rattle.iox2_container.specs.HeaderAndSlots.{registry_of, AreRegistry, IsNewestEnd};
+    ghost use Rattle.iox2_container.specs.HeaderAndSlots.{registry_of, AreRegistry};
 
     ghost Value = { ContainerState T };
 
@@ -84,8 +84,8 @@ impl<T: Copy, S: SlotAllocator<T>> Model for CountedMap<T, S> {
     } };
 
     ghost invariant = { λ m.
-        AreRegistry m.header (map shown m.slots.cells) × S.fits m.free m.slots.cells
-        × IsNewestEnd (registry_of m.header (map shown m.slots.cells)) m.newest_end };
+        AreRegistry m.header (map shown m.slots.cells) m.newest_end
+        × S.fits m.free m.slots.cells };
 }
 
 impl<T: Copy, S: SlotAllocator<T>> CountedMap<T, S> {

@@ -145,9 +145,9 @@ fn sweep_found<T: Attached + Copy, S: SlotAllocator<T>, F: FnMut(&T) -> bool>(
     requires callable { TakesAt F.FnMut f.old found.details }
     ensures fits { S.fits free.new slots.new.cells }
     ensures called { CalledAt F.FnMut f.old found.details result f.new }
-    ensures gone { IsTrue result →
-        map shown slots.new.cells ≡ slice_set (map shown slots.old.cells) found.slot None }
-    ensures kept { result ≡ false → map shown slots.new.cells ≡ map shown slots.old.cells }
+    ensures cells { map shown slots.new.cells ≡
+        (if result then slice_set (map shown slots.old.cells) found.slot None
+        else map shown slots.old.cells) }
     ensures touches { slots.new.touches ≡ slots.old.touches + (if result then 1 else 0) }
 {
     let goes = call(found.details, f);

@@ -98,10 +98,8 @@ impl StaticConfig {
         ensures { result ≡ self.now }
     {
         StaticConfig {
-            max_readers: self.max_readers,
-            max_writers: self.max_writers,
-            max_nodes: self.max_nodes,
             type_details: self.type_details.copied(),
+            ..*self
         }
     }
 }

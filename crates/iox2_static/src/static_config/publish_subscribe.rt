@@ -190,14 +190,8 @@ impl StaticConfig {
         ensures { result ≡ self.now }
     {
         StaticConfig {
-            max_subscribers: self.max_subscribers,
-            max_publishers: self.max_publishers,
-            max_nodes: self.max_nodes,
-            history_size: self.history_size,
-            subscriber_max_buffer_size: self.subscriber_max_buffer_size,
-            subscriber_max_borrowed_samples: self.subscriber_max_borrowed_samples,
-            enable_safe_overflow: self.enable_safe_overflow,
             message_type_details: self.message_type_details.copied(),
+            ..*self
         }
     }
 }

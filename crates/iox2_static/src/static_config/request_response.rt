@@ -260,18 +260,9 @@ impl StaticConfig {
         ensures { result ≡ self.now }
     {
         StaticConfig {
-            enable_safe_overflow_for_requests: self.enable_safe_overflow_for_requests,
-            enable_safe_overflow_for_responses: self.enable_safe_overflow_for_responses,
-            enable_fire_and_forget_requests: self.enable_fire_and_forget_requests,
-            max_active_requests_per_client: self.max_active_requests_per_client,
-            max_loaned_requests: self.max_loaned_requests,
-            max_response_buffer_size: self.max_response_buffer_size,
-            max_servers: self.max_servers,
-            max_clients: self.max_clients,
-            max_nodes: self.max_nodes,
-            max_borrowed_responses_per_pending_response: self.max_borrowed_responses_per_pending_response,
             request_message_type_details: self.request_message_type_details.copied(),
             response_message_type_details: self.response_message_type_details.copied(),
+            ..*self
         }
     }
 }

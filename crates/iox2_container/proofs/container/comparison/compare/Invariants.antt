@@ -1,5 +1,4 @@
-use Rattle.iox2_container.proofs.Prelude.{◌≡◌, length}
-use Rattle.iox2_container.specs.Prelude.{IsRegistry, Made}
+use Rattle.iox2_container.proofs.Prelude.{IsRegistry, Made, length, ◌≡◌}
 use Rattle.iox2_container.proofs.container.comparison.compare.Given as goal
 
 abbrev pub invariant-loop-call : goal.invariant-loop-call

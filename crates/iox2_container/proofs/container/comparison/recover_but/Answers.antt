@@ -1,5 +1,4 @@
-use Rattle.iox2_container.proofs.Prelude.{◌≡◌, refl, rules}
-use Rattle.iox2_container.specs.Prelude.{is_of, is_outside}
+use Rattle.iox2_container.proofs.Prelude.{is_of, is_outside, refl, rules, ◌≡◌}
 use Rattle.iox2_container.proofs.LentCallbacks.{RecoversBy-through}
 use Rattle.iox2_container.proofs.container.comparison.recover_but.Goals as goal
 

@@ -1,5 +1,4 @@
-use Rattle.iox2_container.proofs.Prelude.{◌++◌, ◌∙◌, ◌≡◌, ap, arith, filter, length, length-map, map, map-id, rules, true}
-use Rattle.iox2_container.specs.Prelude.{listed}
+use Rattle.iox2_container.proofs.Prelude.{ap, arith, filter, length, length-map, listed, map, map-id, rules, true, ◌++◌, ◌∙◌, ◌≡◌}
 use Rattle.iox2_container.proofs.Collecting.{CanVisit-collecting, collects, all_pass, passes_all}
 use Rattle.iox2_container.proofs.container.listing.entries.Goals as goal
 

@@ -1,5 +1,4 @@
-use Rattle.iox2_container.proofs.Prelude.{◌∙◌, arith, map, refl}
-use Rattle.iox2_container.specs.Prelude.{shown}
+use Rattle.iox2_container.proofs.Prelude.{arith, map, refl, shown, ◌∙◌}
 use Rattle.iox2_container.proofs.Counting.{others_more}
 use Rattle.iox2_container.proofs.container.passes.next_by_one.Goals as goal
 

@@ -1,5 +1,4 @@
-use Rattle.iox2_container.proofs.Prelude.{◌+◌, ◌≡◌, map}
-use Rattle.iox2_container.specs.Prelude.{AreOthers, shown}
+use Rattle.iox2_container.proofs.Prelude.{AreOthers, map, shown, ◌+◌, ◌≡◌}
 use Rattle.iox2_container.proofs.container.passes.next_by_one.Given as goal
 
 abbrev pub invariant-loop-slot : goal.invariant-loop-slot

@@ -1,5 +1,4 @@
-use Rattle.iox2_container.proofs.Prelude.{◌+◌, ◌∙◌, arith, inl, inr, map, refl}
-use Rattle.iox2_container.specs.Prelude.{AreOthers, shown}
+use Rattle.iox2_container.proofs.Prelude.{AreOthers, arith, inl, inr, map, refl, shown, ◌+◌, ◌∙◌}
 use Rattle.iox2_container.proofs.Counting.{found_after, others_join}
 use Rattle.iox2_container.proofs.container.passes.next_of.Goals as goal
 

@@ -1,5 +1,4 @@
-use Rattle.iox2_container.proofs.Prelude.{◌+◌, ◌-◌, ◌≡◌, ◌≤◌, None, map}
-use Rattle.iox2_container.specs.Prelude.{AreOthers, shown}
+use Rattle.iox2_container.proofs.Prelude.{AreOthers, None, map, shown, ◌+◌, ◌-◌, ◌≡◌, ◌≤◌}
 use Rattle.iox2_container.proofs.container.passes.next_of.Given as goal
 
 abbrev pub invariant-loop-slot : goal.invariant-loop-slot

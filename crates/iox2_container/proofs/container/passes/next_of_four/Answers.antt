@@ -1,5 +1,4 @@
-use Rattle.iox2_container.proofs.Prelude.{arith, map}
-use Rattle.iox2_container.specs.Prelude.{shown}
+use Rattle.iox2_container.proofs.Prelude.{arith, map, shown}
 use Rattle.iox2_container.proofs.Counting.{others_two, others_three, others_four}
 use Rattle.iox2_container.proofs.container.passes.next_of_four.Goals as goal
 

@@ -1,6 +1,4 @@
-use Rattle.iox2_container.proofs.Prelude.{◌+◌, ◌≡◌, CalledAt, TakesAt, arith, false, if◌then◌else◌, map, refl}
-use Rattle.iox2_container.specs.Prelude.{is_of, occupant, shown}
-use Rattle.iox2_container.proofs.Sweeping.{cells_swept}
+use Rattle.iox2_container.proofs.Prelude.{arith, false, if◌then◌else◌, occupant, refl, ◌+◌, ◌≡◌}
 use Rattle.iox2_container.proofs.CellsToCome.{sweep_ends, sweep_next, sweep_past, takes_next}
 use Rattle.iox2_container.proofs.container.passes.sweep.Goals as goal
 use Rattle.iox2_container.proofs.container.passes.sweep.Goals.{then-sweep_found, else-sweep_found}
@@ -26,15 +24,11 @@ sweep_found-requires-clause-taken g c =
 
 pub sweep_found-requires-clause-callable : goal.sweep_found-requires-clause-callable
 sweep_found-requires-clause-callable g c =
-    takes_next (TakesAt g.F.FnMut) (CalledAt g.F.FnMut) g.T.Attached.node c.args.dead.now
-    c.args.f.now c.loop-found.f (map shown c.args.slots.now.cells) c.loop-found.slots.cells
-    c.loop-found.start c.end-end.result c.loop-found.gone c.in-Some.found c.in-Some.ensures.found
-    c.loop-found.invariant.so_far
+    takes_next c.in-Some.ensures.found c.loop-found.invariant.so_far
 
 pub loop-found-preserved : goal.loop-found-preserved
 loop-found-preserved g c =
     let goes = c.sweep_found.result in
-    let found = c.in-Some.found in
     let gone_is : c.if-sweep_found.gone ≡ c.loop-found.gone + (if goes then 1 else 0) =
     elim c.if-sweep_found.branch [
       | then-sweep_found w ↦ rw w.if-sweep_found.true w.gone-is
@@ -43,15 +37,9 @@ loop-found-preserved g c =
     record {
       within = omega (arith, c.in-Some.ensures.found.before);
       fits = c.sweep_found.ensures.fits;
-      so_far = sweep_next (TakesAt g.F.FnMut) (CalledAt g.F.FnMut) g.T.Attached.node
-          c.args.dead.now c.args.f.now c.loop-found.f (map shown c.args.slots.now.cells)
-          c.loop-found.slots.cells c.loop-found.start c.end-end.result c.loop-found.gone found
-          c.in-Some.ensures.found c.loop-found.invariant.so_far c.next_of.new.slots.cells
-          c.sweep_found.new.slots.cells c.sweep_found.new.f c.if-sweep_found.gone goes
-          c.next_of.ensures.cells c.sweep_found.ensures.called
-          (cells_swept (map shown c.next_of.new.slots.cells)
-          (map shown c.sweep_found.new.slots.cells) found.slot goes c.sweep_found.ensures.gone
-          c.sweep_found.ensures.kept) gone_is;
+      so_far = sweep_next c.in-Some.ensures.found c.loop-found.invariant.so_far _
+          c.sweep_found.new.f c.if-sweep_found.gone goes c.sweep_found.ensures.called
+          (rw c.next_of.ensures.cells at c.sweep_found.ensures.cells) gone_is;
       touches = omega (
         arith,
         c.in-Some.ensures.touches,
@@ -64,12 +52,7 @@ loop-found-preserved g c =
 
 pub returns-clause-swept : goal.returns-clause-swept
 returns-clause-swept g c =
-    let cells = map shown c.args.slots.now.cells in
-    let left = map shown c.loop-found.slots.cells in
     rw c.next_of.ensures.cells
-    (sweep_ends (TakesAt g.F.FnMut) (CalledAt g.F.FnMut)
-    (is_of g.T.Attached.node c.args.dead.now) c.args.f.now c.loop-found.f cells left
-    c.end-end.result c.loop-found.gone c.end-end.ensures.free
-    (sweep_past (TakesAt g.F.FnMut) (CalledAt g.F.FnMut) g.T.Attached.node c.args.dead.now
-    c.args.f.now c.loop-found.f cells left c.loop-found.start c.end-end.result c.loop-found.gone
-    c.loop-found.invariant.within c.in_default.ensures.found c.loop-found.invariant.so_far))
+    (sweep_ends c.end-end.ensures.free
+    (sweep_past g.T.Attached.node c.args.dead.now c.end-end.result c.loop-found.invariant.so_far
+    c.loop-found.invariant.within c.in_default.ensures.found))

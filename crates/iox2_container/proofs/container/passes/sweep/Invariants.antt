@@ -1,5 +1,4 @@
-use Rattle.iox2_container.proofs.Prelude.{◌+◌, ◌-◌, ◌≡◌, ◌≤◌, CalledAt, TakesAt, map}
-use Rattle.iox2_container.specs.Prelude.{is_of, shown}
+use Rattle.iox2_container.proofs.Prelude.{CalledAt, TakesAt, is_of, map, shown, ◌+◌, ◌-◌, ◌≡◌, ◌≤◌}
 use Rattle.iox2_container.proofs.CellsToCome.{HasSwept}
 use Rattle.iox2_container.proofs.container.passes.sweep.Given as goal
 

@@ -1,5 +1,4 @@
-use Rattle.iox2_container.proofs.Prelude.{rules}
-use Rattle.iox2_container.specs.Prelude.{occupant}
+use Rattle.iox2_container.proofs.Prelude.{occupant, rules}
 use Rattle.iox2_container.proofs.container.passes.take_out.Goals as goal
 
 pub clear-requires-clause-taken : goal.clear-requires-clause-taken

@@ -1,5 +1,4 @@
-use Rattle.iox2_container.proofs.Prelude.{◌+◌, ◌≡◌, arith, map}
-use Rattle.iox2_container.specs.Prelude.{shown}
+use Rattle.iox2_container.proofs.Prelude.{arith, map, shown, ◌+◌, ◌≡◌}
 use Rattle.iox2_container.proofs.CellEntries.{all_before}
 use Rattle.iox2_container.proofs.Counting.{counted_more, few_more, one_if}
 use Rattle.iox2_container.proofs.container.queries.count_of.Goals as goal

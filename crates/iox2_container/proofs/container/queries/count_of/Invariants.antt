@@ -1,5 +1,4 @@
-use Rattle.iox2_container.proofs.Prelude.{◌+◌, ◌≡◌, ◌≤◌, length, map, take}
-use Rattle.iox2_container.specs.Prelude.{candidates, entries_from, is_of, shown}
+use Rattle.iox2_container.proofs.Prelude.{candidates, entries_from, is_of, length, map, shown, take, ◌+◌, ◌≡◌, ◌≤◌}
 use Rattle.iox2_container.proofs.container.queries.count_of.Given as goal
 
 abbrev pub invariant-loop-slot : goal.invariant-loop-slot

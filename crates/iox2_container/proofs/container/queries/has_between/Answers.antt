@@ -1,5 +1,4 @@
-use Rattle.iox2_container.proofs.Prelude.{arith, map}
-use Rattle.iox2_container.specs.Prelude.{shown}
+use Rattle.iox2_container.proofs.Prelude.{arith, map, shown}
 use Rattle.iox2_container.proofs.Counting.{other_at, others_join}
 use Rattle.iox2_container.proofs.container.queries.has_between.Goals as goal
 

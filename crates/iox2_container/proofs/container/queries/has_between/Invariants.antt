@@ -1,5 +1,4 @@
-use Rattle.iox2_container.proofs.Prelude.{◌+◌, ◌-◌, ◌≡◌, ◌≤◌, map}
-use Rattle.iox2_container.specs.Prelude.{AreOthers, shown}
+use Rattle.iox2_container.proofs.Prelude.{AreOthers, map, shown, ◌+◌, ◌-◌, ◌≡◌, ◌≤◌}
 use Rattle.iox2_container.proofs.container.queries.has_between.Given as goal
 
 abbrev pub invariant-loop-slot : goal.invariant-loop-slot

@@ -1,5 +1,4 @@
-use Rattle.iox2_container.proofs.Prelude.{arith, map}
-use Rattle.iox2_container.specs.Prelude.{shown}
+use Rattle.iox2_container.proofs.Prelude.{arith, map, shown}
 use Rattle.iox2_container.proofs.Counting.{newest_found, newest_missed, some_counted, finds_last}
 use Rattle.iox2_container.proofs.container.queries.has_entry.Goals as goal
 

@@ -1,5 +1,4 @@
-use Rattle.iox2_container.proofs.Prelude.{CalledAt, TakesAt, add-one, arith, map}
-use Rattle.iox2_container.specs.Prelude.{entries_from, shown}
+use Rattle.iox2_container.proofs.Prelude.{CalledAt, TakesAt, add-one, arith, entries_from, map, shown}
 use Rattle.iox2_container.proofs.CellEntries.{all_before}
 use Rattle.iox2_container.proofs.CallsInTurn.{details_of, goes_on, stops, ends, not_stop}
 use Rattle.iox2_container.proofs.CellsToCome.{visit_at}

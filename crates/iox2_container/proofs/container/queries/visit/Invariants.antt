@@ -1,5 +1,4 @@
-use Rattle.iox2_container.proofs.Prelude.{◌+◌, ◌≡◌, CalledAt, TakesAt, map, take}
-use Rattle.iox2_container.specs.Prelude.{MayVisit, entries_from, shown}
+use Rattle.iox2_container.proofs.Prelude.{CalledAt, MayVisit, TakesAt, entries_from, map, shown, take, ◌+◌, ◌≡◌}
 use Rattle.iox2_container.proofs.CallsInTurn.{details_of, GoesOn}
 use Rattle.iox2_container.proofs.CellsToCome.{details_from}
 use Rattle.iox2_container.proofs.container.queries.visit.Given as goal

@@ -1,5 +1,4 @@
-use Rattle.iox2_container.proofs.Prelude.{◌↔◌, AllZip, length}
-use Rattle.iox2_container.specs.Prelude.{AgreesBy}
+use Rattle.iox2_container.proofs.Prelude.{AgreesBy, AllZip, length, ◌↔◌}
 use Rattle.iox2_container.proofs.container.comparison.agreement.is_same_kind.Given as goal
 
 abbrev pub invariant-loop-one : goal.invariant-loop-one

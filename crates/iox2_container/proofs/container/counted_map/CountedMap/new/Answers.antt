@@ -1,4 +1,4 @@
-use Rattle.iox2_container.proofs.Making.{new_kept, new_is_fresh, new_newest}
+use Rattle.iox2_container.proofs.Making.{new_kept, new_is_fresh}
 use Rattle.iox2_container.proofs.container.counted_map.CountedMap.new.Goals as goal
 
 pub invariant_of-result : goal.invariant_of-result
@@ -6,8 +6,6 @@ invariant_of-result g c = (
   new_kept c.args.service c.args.role c.args.tickets c.args.capacity c.in_ok-slots.slots.cells _
       c.in_ok-slots.ensures.cells,
   rw c.in_ok-slots.ensures.cells (c.all_free-free.ensures c.args.capacity),
-  new_newest c.args.service c.args.role c.args.tickets c.args.capacity c.in_ok-slots.slots.cells
-      _ c.in_ok-slots.ensures.cells,
 )
 
 pub returns : goal.returns

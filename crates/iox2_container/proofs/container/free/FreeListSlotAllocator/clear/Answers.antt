@@ -1,4 +1,4 @@
-use Rattle.std.proofs.Common.{rules, arith}
+use Rattle.iox2_container.proofs.Prelude.{arith, rules}
 use Rattle.iox2_container.proofs.SlotAllocator.{threaded_clear, clears_first}
 use Rattle.iox2_container.proofs.container.free.FreeListSlotAllocator.clear.Goals as goal
 

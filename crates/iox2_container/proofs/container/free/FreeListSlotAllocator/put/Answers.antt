@@ -1,5 +1,4 @@
-use Rattle.iox2_container.proofs.Prelude.{◌≡◌, map-set, refl, rules}
-use Rattle.iox2_container.specs.Prelude.{TakesFirst}
+use Rattle.iox2_container.proofs.Prelude.{TakesFirst, map-set, refl, rules, ◌≡◌}
 use Rattle.iox2_container.proofs.FreeList.{shown_free}
 use Rattle.iox2_container.proofs.SlotAllocator.{took, threaded_put, puts_first}
 use Rattle.iox2_container.proofs.container.free.FreeListSlotAllocator.put.Goals as goal

@@ -1,5 +1,4 @@
-use Rattle.iox2_container.proofs.Prelude.{arith, length-map, map}
-use Rattle.iox2_container.specs.Prelude.{shown}
+use Rattle.iox2_container.proofs.Prelude.{arith, length-map, map, shown}
 use Rattle.iox2_container.proofs.CellEntries.{full_from}
 use Rattle.iox2_container.proofs.container.free.LowestFreeSlotAllocator.put.Goals as goal
 

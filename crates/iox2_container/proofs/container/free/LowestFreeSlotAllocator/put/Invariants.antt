@@ -1,5 +1,4 @@
-use Rattle.iox2_container.proofs.Prelude.{◌+◌, ◌<◌, ◌≡◌, ◌≢◌, None, Some, ℕ, map, slice_get}
-use Rattle.iox2_container.specs.Prelude.{shown}
+use Rattle.iox2_container.proofs.Prelude.{None, Some, map, shown, slice_get, ℕ, ◌+◌, ◌<◌, ◌≡◌, ◌≢◌}
 use Rattle.iox2_container.proofs.container.free.LowestFreeSlotAllocator.put.Given as goal
 
 abbrev pub invariant-loop-slot : goal.invariant-loop-slot

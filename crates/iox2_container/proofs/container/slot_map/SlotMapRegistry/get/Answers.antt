@@ -1,5 +1,4 @@
-use Rattle.iox2_container.proofs.Prelude.{map}
-use Rattle.iox2_container.specs.Prelude.{shown}
+use Rattle.iox2_container.proofs.Prelude.{map, shown}
 use Rattle.iox2_container.proofs.Handles.{names}
 use Rattle.iox2_container.proofs.container.slot_map.SlotMapRegistry.get.Goals as goal
 

@@ -1,4 +1,4 @@
-use Rattle.iox2_container.proofs.Prelude.{◌≡◌, replicate, vec_capacity, vec_len}
+use Rattle.iox2_container.proofs.Prelude.{replicate, vec_capacity, vec_len, ◌≡◌}
 use Rattle.iox2_container.proofs.container.slots.Slots.new.Given as goal
 
 abbrev pub invariant-loop : goal.invariant-loop

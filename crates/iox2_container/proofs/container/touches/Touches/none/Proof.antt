@@ -1,5 +1,5 @@
 -- `none` picks the count 0. Assumes `Logic`.
-use Rattle.iox2_container.proofs.Prelude.{[], ◌∷◌, refl}
+use Rattle.iox2_container.proofs.Prelude.{[], refl, ◌∷◌}
 use Rattle.std.proofs.raw_atomic.Walks.{proved_at}
 use types.Kit.{‵, raw, ◌⊛◌, ◌$◌, ◌∵◌, !, qed, move, keep, drop, split, fjoin, suffices, done}
 use types.Part.{agg}

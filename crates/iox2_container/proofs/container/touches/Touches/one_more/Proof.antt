@@ -1,5 +1,5 @@
 -- `one_more` picks a count that is one more. Assumes `Logic`.
-use Rattle.iox2_container.proofs.Prelude.{[], ◌++◌, ◌+◌, ◌∷◌, List, refl}
+use Rattle.iox2_container.proofs.Prelude.{List, [], refl, ◌++◌, ◌+◌, ◌∷◌}
 use Rattle.std.proofs.raw_atomic.Walks.{proved_at}
 use mir.Val.{Val}
 use prog.Wp.{WpFn}

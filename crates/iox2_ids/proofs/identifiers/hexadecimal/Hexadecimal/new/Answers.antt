@@ -11,6 +11,4 @@ invariant_of-result c =
     (omega (arith, all.0), IsAscii-drop _ _ all.1)
 
 pub returns : goal.returns
-returns c =
-    (written c.args.value c.min-start.result c.all_digits-digits.result
-    (omega arith) c.all_digits-digits.ensures c.min-start.ensures).2
+returns c = grind (arith, written)

@@ -1,5 +1,5 @@
 -- The text of a number is UTF-8, is parsed as that number, and is what that number has.
-use Rattle.std.proofs.Common.{◌≡◌, ℕ, ◌<◌, ◌^◌, List, [], ◌∷◌, ap, arith, false, refl, rules, subst, sym, ◌∙◌}
+use Rattle.std.proofs.Common.{◌≡◌, ℕ, ◌<◌, ◌^◌, List, [], ◌∷◌, ap, arith, refl, rules, subst, sym, ◌∙◌}
 use Rattle.std.proofs.lemmas.Bool.Decides.{nat_tests}
 use Rattle.std.proofs.lemmas.Fmt.{digits_is_IsNumeral}
 use Rattle.std.proofs.lemmas.Str.{IsAscii-drop, IsUtf8-from_ascii}
@@ -24,18 +24,14 @@ no_plus (d ∷ ds) h = without_leading_plus_none (d ∷ ds)
 parsed : (n : ℕ) (text : List ℕ) → n < 2 ^ 128 → hexadecimal n ≡ text
     → IsNumeral 16 (without_leading_plus text) × (digits_value 16 (without_leading_plus text) ≡ n)
 parsed n text small e =
-    let made = digits_is_IsNumeral 16 false (omega arith) (omega arith) n (omega arith) in
-    subst (λ t. IsNumeral 16 t × (digits_value 16 t ≡ n))
-    (sym (no_plus _ made.0) ∙ ap without_leading_plus e) made
+    grind (arith, digits_is_IsNumeral, digits_value, without_leading_plus, no_plus)
 
 pub returns-in_default : goal.returns-in_default
 returns-in_default c n small e =
     c.in_default.ensures.cases.0 (IsUtf8-from_ascii _ (subst IsAscii e (ascii n small)))
 
 pub returns-in_default-from_str_radix : goal.returns-in_default-from_str_radix
-returns-in_default-from_str_radix c n small e =
-    let read = parsed n _ small (e ∙ sym c.in-Ok.ensures.cases.0) in
-    c.in_default-from_str_radix.ensures.value (read.0, omega (arith, read.1))
+returns-in_default-from_str_radix c n small e = grind (arith, parsed)
 
 pub returns-else-eq : goal.returns-else-eq
 returns-else-eq c n small e =
