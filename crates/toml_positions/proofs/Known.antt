@@ -108,8 +108,9 @@ known_marked : (text : List ℕ) (w : Written) (ws : List Written) (path : List 
     ≡ option_or found (first_position text path (w ∷ ws))
 known_marked text w ws path found =
     let position = position_of text w.from_key in
-    marked_by found (first_position text path ws) (Some position) (writes w path)
-    ∙ ap (λ o. option_or found o) (first_by position (first_position text path ws) (writes w path))
+    let hit = writes w.path w.pair path in
+    marked_by found (first_position text path ws) (Some position) hit
+    ∙ ap (λ o. option_or found o) (first_by position (first_position text path ws) hit)
 
 pub known_step : (m : ℕ) (header : List (List ℕ)) (text whole rest : List ℕ) (e : Expression)
     (path : List (List ℕ)) (found : Option Position) (from_key : List ℕ) (keys : List (List ℕ))

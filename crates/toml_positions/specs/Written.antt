@@ -68,14 +68,14 @@ agree _ _ = true
 
 -- An expression writes the paths through which its own leads. A pair also writes those that lead
 -- through its own, since all of them are in its value.
-abbrev pub writes : Written → List (List ℕ) → Bool
-writes w path = agree w.path path && (w.pair || nat_le (length path) (length w.path))
+abbrev pub writes : List (List ℕ) → Bool → List (List ℕ) → Bool
+writes keys pair path = agree keys path && (pair || nat_le (length path) (length keys))
 
 -- the position of the first of some expressions that writes a path
 abbrev pub first_position : List ℕ → List (List ℕ) → List Written → Option Position
 first_position text path [] = None
 first_position text path (w ∷ ws) =
-    if writes w path then Some (position_of text w.from_key) else first_position text path ws
+    if writes w.path w.pair path then Some (position_of text w.from_key) else first_position text path ws
 
 -- the position where a path is first written in a text
 abbrev pub position_in : List ℕ → List (List ℕ) → Option Position
@@ -87,7 +87,7 @@ position_in text path =
 abbrev pub marked : List ℕ → Written → List (List ℕ) → Option Position → Option Position
 marked text w path found =
     if is_some found then found
-    else if writes w path then Some (position_of text w.from_key) else None
+    else if writes w.path w.pair path then Some (position_of text w.from_key) else None
 
 -- the positions where some paths are first written
 abbrev pub ArePlaces : List ℕ → List (List (List ℕ)) → List (Option Position) → Type 0

@@ -87,13 +87,31 @@ fn skip_bom(text: &str) -> &str
     }
 }
 
-/// Whether two paths agree as far as both go.
-#[tactic(auto, using(crate::proofs::Paths::agree_past))]
-fn agree(keys: &[String], path: &[&str]) -> bool
-    ensures { result ≡ agree (keys_view keys.now) (map (λ k. k.now) path.now) }
+impl<'a> KeyPath<'a> {
+    /// The key of this index.
+    #[tactic(auto, using(crate::proofs::Paths::key_above, crate::proofs::Paths::key_last))]
+    fn at(&self, index: usize) -> &'a str
+        requires { index ≤ length self.now.table.now }
+        ensures { result.now ≡ slice_index_or (path_view self.now) index [] }
+    {
+        if index < self.table.len() {
+            self.table[index]
+        } else {
+            self.key
+        }
+    }
+}
+
+/// Whether the path of an expression and another one agree as far as both go.
+#[tactic(auto, using(crate::proofs::Paths::agree_next, crate::proofs::Paths::agree_past, crate::proofs::Paths::path_size))]
+fn agree(keys: &[String], path: &KeyPath<'_>) -> bool
+    ensures { result ≡ agree (keys_view keys.now) (path_view path.now) }
 {
-    for at in 0..keys.len().min(path.len()) {
-        if keys[at].as_str() != path[at] {
+    for index in 0..keys.len() {
+        if path.table.len() < index {
+            return true;
+        }
+        if keys[index].as_str() != path.at(index) {
             return false;
         }
     }
@@ -101,18 +119,11 @@ fn agree(keys: &[String], path: &[&str]) -> bool
 }
 
 /// Whether an expression writes a path.
-#[tactic(auto, using(crate::proofs::Paths::writes_apart))]
+#[tactic(auto, using(crate::proofs::Paths::goes_on))]
 fn writes(keys: &[String], pair: bool, path: &KeyPath<'_>) -> bool
-    ensures { (start : _) → result
-        ≡ writes (written start (keys_view keys.now) pair) (path_view path.now) }
+    ensures { result ≡ writes (keys_view keys.now) pair (path_view path.now) }
 {
-    if !agree(keys, path.table) {
-        return false;
-    }
-    if keys.len() <= path.table.len() {
-        return pair;
-    }
-    keys[path.table.len()].as_str() == path.key
+    agree(keys, path) && (pair || path.table.len() < keys.len())
 }
 
 /// Appends the keys of an expression to a path.
@@ -165,13 +176,12 @@ fn marked(
     ensures { result ≡ marked text.now (written from_key.now (keys_view keys.now) pair)
         (path_view path.now) found }
 {
-    if found.is_some() {
-        return found;
-    }
-    if writes(keys, pair, path) {
-        Some(position_after(&text.as_bytes()[..text.len() - from_key.len()]))
-    } else {
-        None
+    match found {
+        Some(position) => Some(position),
+        None if writes(keys, pair, path) => Some(position_after(
+            &text.as_bytes()[..text.len() - from_key.len()],
+        )),
+        None => None,
     }
 }
 
