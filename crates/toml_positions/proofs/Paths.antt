@@ -1,5 +1,5 @@
 -- Paths of keys.
-use Rattle.std.proofs.Common.{◌≡◌, ◌≤◌, ◌<◌, ◌+◌, ◌⊎◌, inl, inr, ℕ, zero, suc, true, ◌&&◌, bytes_eq, get_or, Option, None, List, [], ◌∷◌, ◌++◌, length, map, take, drop, refl, sym, ap, ◌∙◌, string_bytes, String, arith, add-one, append_assoc, length-append, drop_of_length-le}
+use Rattle.std.proofs.Common.{◌≡◌, ◌≤◌, ◌<◌, ◌+◌, ◌⊎◌, inl, inr, ℕ, zero, suc, true, ◌&&◌, bytes_eq, get_or, List, [], ◌∷◌, ◌++◌, length, map, drop, refl, sym, ap, ◌∙◌, string_bytes, String, arith, add-one, append_assoc, length-append, drop_of_length-le}
 use Rattle.std.specs.Borrow.{Bor}
 use Rattle.std.specs.declared.alloc.Global.{Global}
 use Rattle.std.specs.Prelude.{nat_le, nat_lt}
@@ -62,24 +62,3 @@ led old front last =
     map-append string_bytes (old ++ front) (last ∷ [])
     ∙ ap (λ l. l ++ string_bytes last ∷ []) (map-append string_bytes old front)
     ∙ append_assoc (keys_view old) (keys_view front) (string_bytes last ∷ [])
-
--- a front that is kept is the front of what follows it
-pub take_front : {A : Type 0} (n : ℕ) (xs ys : List A) → n ≤ length xs
-    → take n (take n xs ++ ys) ≡ take n xs
-take_front zero xs ys h = refl
-take_front (suc n) [] ys h = absurd (omega arith)
-take_front (suc n) (x ∷ xs) ys h = ap (λ l. x ∷ l) (take_front n xs ys (omega arith))
-
--- a list that is known by its indices
-pub all_by_index : {A : Type 0} (f : List (List ℕ) → Option A) (xs : List (Option A))
-    (ys : List (List (List ℕ))) → length xs ≡ length ys
-    → ((k : ℕ) → k < length ys → get_or xs k None ≡ f (get_or ys k [])) → xs ≡ map f ys
-all_by_index f [] [] same each = refl
-all_by_index f [] (y ∷ ys) same each = absurd (omega (arith, same))
-all_by_index f (x ∷ xs) [] same each = absurd (omega (arith, same))
-all_by_index f (x ∷ xs) (y ∷ ys) same each =
-    let head : x ≡ f y = each 0 (omega arith) in
-    let more : (k : ℕ) → k < length ys → get_or xs k None ≡ f (get_or ys k []) =
-    λ k few. each (suc k) (omega arith) in
-    let rest = all_by_index f xs ys (omega (arith, same)) more in
-    rw (head, rest) refl
