@@ -8,7 +8,7 @@ use Rattle.iox2_config_file.specs.declared.section.Row.{Row}
 use Rattle.iox2_config_file.specs.Read.{row_view}
 use Rattle.iox2_config_file.specs.Settings.{Setting, held_at}
 use Rattle.iox2_config_file.specs.Values.{SettingValue}
-use Rattle.iox2_config_file.proofs.Rowed.{here, keyed, row_key}
+use Rattle.iox2_config_file.proofs.Rowed.{drop_at, here, keyed, row_key}
 use Rattle.config_report.specs.Text.{ValuePair, paired}
 
 abbrev pub make_pair : List ℕ → SettingValue → SettingValue → ValuePair
@@ -58,12 +58,6 @@ drop_past [] zero none = refl
 drop_past [] (suc i) none = refl
 drop_past (x ∷ xs) zero none = absurd (none-some x none)
 drop_past (x ∷ xs) (suc i) none = drop_past xs i none
-
-drop_at : {X : Type 0} (xs : List X) (i : ℕ) (x : X) → Some x ≡ slice_get xs i
-    → drop i xs ≡ x ∷ drop (suc i) xs
-drop_at [] i x at = absurd (none-some x (sym at))
-drop_at (y ∷ xs) zero x at = cc
-drop_at (y ∷ xs) (suc i) x at = drop_at xs i x at
 
 -- what is made of one thing more was added
 pub walk_next : {P A : Type 0} (f : P → List A) (ps : List P) (i : ℕ) (p : P)

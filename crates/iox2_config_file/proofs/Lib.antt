@@ -1,6 +1,5 @@
 pub mod Complete
 pub mod Distances
-pub mod Filling
 pub mod ReadBack
 pub mod Reading
 pub mod Rowed

@@ -1,12 +1,12 @@
 -- What is read of the text of a configuration.
-use Rattle.std.proofs.Common.{◌≡◌, ℕ, true, List, [], ◌∷◌, ◌++◌, map, Option, Some, None, option_map, Result, Ok, Err, IfOk, IfErr, string_bytes, ◌∙◌, refl, sym, ap, subst, length, arith, rules}
+use Rattle.std.proofs.Common.{◌≡◌, ℕ, Bool, true, List, [], ◌∷◌, ◌++◌, map, Option, Some, None, option_map, Result, Ok, Err, IfOk, IfErr, string_bytes, ◌∙◌, refl, sym, ap, subst, length, arith, rules}
 use Rattle.std.specs.Prelude.{not, ◌||◌, String}
 use Rattle.std.specs.List.{filter_map}
 use Rattle.std.proofs.lemmas.List.Elements.{filter_map-append}
 use Rattle.std.specs.declared.alloc.Global.{Global}
 use Rattle.toml.specs.Data.{Data, Members, get_member}
 use Rattle.toml.specs.Parse.{parse_document}
-use Rattle.toml.specs.Tables.{Nodes, no_nodes, node, value, get_node, close}
+use Rattle.toml.specs.Tables.{Nodes, no_nodes, node, value, get_node, close, close_node}
 use Rattle.iox2_config.specs.Defaults.{IsDefaultConfig}
 use Rattle.iox2_config.specs.declared.config.Config.{Config}
 use Rattle.iox2_config_file.specs.declared.fault.Kind.{Kind}
@@ -23,9 +23,24 @@ use Rattle.iox2_config_file.specs.Settings.{Setting, settings_in, tables_in, glo
 use Rattle.iox2_config_file.specs.Unknown.{is_known, unknown_view, unknown_at, unknown_among, section_unknown, unknown_in}
 use Rattle.iox2_config_file.specs.Values.{SettingValue, value_or}
 use Rattle.iox2_config_file.specs.Write.{value_is_set, misfits, IsConfigText, WritesOver}
-use Rattle.iox2_config_file.proofs.Filling.{AllHold, AllKeys, get_closed}
-use Rattle.iox2_config_file.proofs.Written.{AreWritten, Keeps, keeps, data_at, pair_of, rows_of, are_set, rest_written}
+use Rattle.iox2_config_file.proofs.Written.{Pair, AreWritten, Keeps, keeps, data_at, pair_of, rows_of, are_set, rest_written}
 use Rattle.iox2_config_file.proofs.WrittenTables.{AllWritten, all_written, rows_in_all, pairs_in, no_items, table_nodes, global_nodes, defaults_nodes, root_nodes, run_all, written_is_read}
+
+-- each pair's key holds what is written at it
+abbrev AllHold : Nodes → List Pair → Type 0
+AllHold ns [] = Unit {0}
+AllHold ns (p ∷ ps) = (get_node p.0 ns ≡ option_map value p.1) × AllHold ns ps
+
+-- every key of the table passes
+abbrev AllKeys : (List ℕ → Bool) → Nodes → Type 0
+AllKeys test no_nodes = Unit {0}
+AllKeys test (node k x ns) = (test k ≡ true) × AllKeys test ns
+
+-- what a key of the closed table holds
+get_closed : (k : List ℕ) (ns : Nodes)
+    → get_member k (close ns) ≡ option_map close_node (get_node k ns)
+get_closed k no_nodes = refl
+get_closed k (node l x ns) = grind (arith, get_closed k ns)
 
 -- what stands in a table of the document
 abbrev pub nodes_in : Config → Section → Nodes

@@ -89,11 +89,12 @@ pub entries_past : (rows : List Row) (ds xs : List Setting) (i : ℕ)
     → held_at xs i ≡ None → entries_text (drop i rows) (drop i ds) (drop i xs) ≡ []
 entries_past rows ds xs i h = grind (arith, past, no_entries)
 
-drop_row : (rows : List Row) (i : ℕ) (r : Row) → slice_get rows i ≡ Some r
-    → drop i rows ≡ r ∷ drop (suc i) rows
-drop_row [] i r h = absurd (none-some r h)
-drop_row (a ∷ rows) zero r h = cc
-drop_row (a ∷ rows) (suc i) r h = drop_row rows i r h
+-- the list from an index on begins with what stands there
+pub drop_at : {A : Type 0} (xs : List A) (i : ℕ) (x : A) → slice_get xs i ≡ Some x
+    → drop i xs ≡ x ∷ drop (suc i) xs
+drop_at [] i x h = absurd (none-some x h)
+drop_at (y ∷ ys) zero x h = cc
+drop_at (y ∷ ys) (suc i) x h = drop_at ys i x h
 
 -- one setting more is written
 pub entries_here : (rows : List Row) (ds xs : List Setting) (i : ℕ) (r : Row)
@@ -103,7 +104,7 @@ pub entries_here : (rows : List Row) (ds xs : List Setting) (i : ℕ) (r : Row)
 entries_here rows ds xs i r d v row default value =
     let (y, split_d, is_d, _) = here ds i d default in
     let (x, split_x, is_x, _) = here xs i v value in
-    rw (add-one, drop_row rows i r row, split_d, split_x, is_d, is_x)
+    rw (add-one, drop_at rows i r row, split_d, split_x, is_d, is_x)
 
 -- one setting more was written
 pub entries_next : (rows : List Row) (ds xs : List Setting) (i : ℕ) (r : Row)
@@ -124,10 +125,9 @@ some_first : (xs : List (List ℕ)) (x : List ℕ) → Some x ≡ slice_get xs 0
 some_first [] x h = absurd (none-some x (sym h))
 some_first (y ∷ ys) x h = (ys, ap (λ z. z ∷ ys) (sym (same_Some x y h)))
 
--- from this table on, it comes first
-split_at : (ss : List Section) (i : ℕ) (d : Section) → i < length ss
-    → drop i ss ≡ get_or ss i d ∷ drop (i + 1) ss
-split_at ss i d lt = grind (arith, add-one, drop-cons)
+pub split_at : {A : Type 0} (xs : List A) (i : ℕ) (d : A) → i < length xs
+    → drop i xs ≡ get_or xs i d ∷ drop (i + 1) xs
+split_at xs i d lt = rw add-one (drop-cons xs i d lt)
 
 -- what is found in one table more
 pub table_more : {A : Type 0} (found : Section → List A) (ss : List Section) (i : ℕ) (d : Section)
@@ -165,7 +165,7 @@ pub turn_next : {A B : Type 0} (Gives : B → List A → Type 0) (xs : List B) (
     → Gives (get_or xs i d) one → Follow Gives xs i done
     → (all : List A) × (new ≡ before ++ all) × Follow Gives xs (i + 1) all
 turn_next Gives xs i d before old new done one lt was now gives rest =
-    let split : drop i xs ≡ get_or xs i d ∷ drop (i + 1) xs = rw add-one (drop-cons xs i d lt) in (
+    let split = split_at xs i d lt in (
       done ++ one,
       now ∙ ap (λ l. l ++ one) was ∙ append_assoc before done one,
       λ more others.

@@ -1,7 +1,7 @@
 -- The settings of a table as they are written, and as they are read from that.
-use Rattle.std.proofs.Common.{◌≡◌, ℕ, ◌/◌, ◌%◌, ◌<◌, ◌≤◌, ◌^◌, pos, Bool, true, false, not, ◌&&◌, ◌||◌, List, [], ◌∷◌, ◌++◌, length, codes, map, Option, Some, None, Ok, refl, sym, ap, arith, append_assoc, subst, rules}
+use Rattle.std.proofs.Common.{◌≡◌, ℕ, ◌/◌, ◌%◌, ◌<◌, ◌≤◌, ◌^◌, pos, Bool, true, false, not, ◌&&◌, ◌||◌, List, [], ◌∷◌, ◌++◌, length, codes, map, Option, Some, None, option_map, Ok, refl, sym, ap, arith, append_assoc, subst, rules}
 use Rattle.std.specs.Prelude.{nat_lt, ⊤}
-use Rattle.std.specs.List.{list_all}
+use Rattle.std.specs.List.{list_all, filter_map}
 use Rattle.std.proofs.Math.Nat.{mod-lt}
 use Rattle.std.proofs.lemmas.Bool.Decides.{nat_tests}
 use Rattle.std.proofs.lemmas.Nat.{div-add-mod'}
@@ -9,11 +9,13 @@ use Rattle.std.proofs.lemmas.List.Folds.{list_all-append}
 use Rattle.toml_parser.specs.Lexical.{is_bare, is_non_eol}
 use Rattle.toml_writer.specs.Text.{key_text, string_text, encoding_of, escaped, needs_escape, quotes_after}
 use Rattle.toml.specs.Data.{Data, string, integer, boolean, table, no_members, member, depth, has_valid_dates}
-use Rattle.toml.specs.Tables.{Expression}
+use Rattle.toml.specs.Tables.{Expression, Nodes, value, insert, key_value}
 use Rattle.toml.specs.Text.{IsValueText}
 use Rattle.iox2_texts.specs.Text.{IsTextUpTo}
 use Rattle.iox2_texts.specs.Name.{IsAllowed}
 use Rattle.iox2_texts.specs.Path.{IsPlain}
+use Rattle.iox2_config.specs.declared.config.choices.BackpressureStrategy.{BackpressureStrategy}
+use Rattle.iox2_config.specs.declared.config.choices.AllocationStrategy.{AllocationStrategy}
 use Rattle.iox2_config.specs.declared.config.choices.BackpressureStrategy.TheVariants.{RetryUntilDelivered, DiscardData}
 use Rattle.iox2_config.specs.declared.config.choices.AllocationStrategy.TheVariants.{BestFit, PowerOfTwo, Static}
 use Rattle.iox2_config_file.specs.declared.fault.Kind.{Kind}
@@ -24,21 +26,52 @@ use Rattle.iox2_config_file.specs.Answers.{IsLegal, AreLegal}
 use Rattle.iox2_config_file.specs.Settings.{is_line, are_lines, Setting}
 use Rattle.iox2_config_file.specs.Values.{SettingValue, number, flag, text, backpressure, allocation, duration, absent, settings, value_in, text_in, is_path, is_file_name}
 use Rattle.iox2_config_file.specs.Write.{value_text, value_fits, value_is_set, assignment, entry_text, entries_text}
-use Rattle.iox2_config_file.proofs.Filling.{Pair, lines_of, more_lines}
 use Rattle.iox2_config_file.proofs.Values.{any_path, plain, made_text}
 use Rattle.iox2_config_file.proofs.Rowed.{no_entries}
 use Rattle.iox2_config_file.proofs.Reading.{Block, block_append, block_none, block_newline, block_comment, block_pair}
+
+-- a key, and what is written at it, if anything is
+abbrev pub Pair : Type 0
+Pair = List ℕ × Option Data
+
+-- the lines of some pairs
+abbrev line_of : Pair → Option Expression
+line_of p = option_map (λ d. (([], p.0), key_value d)) p.1
+
+abbrev pub lines_of : List Pair → List Expression
+lines_of ps = filter_map line_of ps
+
+-- a table after a pair, and after some
+abbrev set_one : List ℕ → Option Data → Nodes → Nodes
+set_one k None ns = ns
+set_one k (Some d) ns = insert k (value d) ns
+
+abbrev pub set_all : List Pair → Nodes → Nodes
+set_all [] ns = ns
+set_all (p ∷ ps) ns = set_all ps (set_one p.0 p.1 ns)
+
+-- the lines of one pair more
+more_lines : (k : List ℕ) (o : Option Data) (ps : List Pair)
+    → lines_of ((k, o) ∷ ps) ≡ filter_map line_of ((k, o) ∷ []) ++ lines_of ps
+more_lines k o ps = grind arith
+
+-- the names of strategies
+abbrev backpressure_name : BackpressureStrategy → List ℕ
+backpressure_name RetryUntilDelivered = codes "RetryUntilDelivered"
+backpressure_name DiscardData = codes "DiscardData"
+
+abbrev allocation_name : AllocationStrategy → List ℕ
+allocation_name BestFit = codes "BestFit"
+allocation_name PowerOfTwo = codes "PowerOfTwo"
+allocation_name Static = codes "Static"
 
 -- what TOML has for a value
 abbrev pub data_at : SettingValue → Option Data
 data_at (number n) = Some (integer (pos n))
 data_at (flag b) = Some (boolean b)
 data_at (text s) = Some (string s)
-data_at (backpressure RetryUntilDelivered) = Some (string (codes "RetryUntilDelivered"))
-data_at (backpressure DiscardData) = Some (string (codes "DiscardData"))
-data_at (allocation BestFit) = Some (string (codes "BestFit"))
-data_at (allocation PowerOfTwo) = Some (string (codes "PowerOfTwo"))
-data_at (allocation Static) = Some (string (codes "Static"))
+data_at (backpressure b) = Some (string (backpressure_name b))
+data_at (allocation a) = Some (string (allocation_name a))
 data_at (duration n) =
     Some (table (member (codes "nanos") (integer (pos (n % 1_000_000_000)))
     (member (codes "secs") (integer (pos (n / 1_000_000_000))) no_members)))

@@ -1,5 +1,5 @@
 -- The tables of a configuration as they are written, and what a document holds after them.
-use Rattle.std.proofs.Common.{◌≡◌, ℕ, ◌<◌, ◌^◌, ◌&&◌, Bool, true, false, List, [], ◌∷◌, ◌++◌, length, codes, map, drop, Some, None, option_map, refl, ap, ◌∙◌, arith, append_assoc}
+use Rattle.std.proofs.Common.{◌≡◌, ℕ, ◌<◌, ◌^◌, ◌&&◌, Bool, true, false, List, [], ◌∷◌, ◌++◌, length, codes, map, take, drop, Option, Some, None, option_map, refl, ap, ◌∙◌, arith, append_assoc}
 use Rattle.std.specs.Prelude.{flat_map, if◌then◌else◌}
 use Rattle.std.specs.List.{list_all, filter_map}
 use Rattle.toml_writer.specs.Text.{key_text, dotted_text, string_text, encoding_of, escaped, needs_escape, quotes_after}
@@ -10,21 +10,22 @@ use Rattle.std.specs.Fmt.{decimal}
 use Rattle.std.proofs.Math.Nat.{mod-lt}
 use Rattle.std.proofs.lemmas.Bool.Decides.{nat_tests}
 use Rattle.toml.specs.Parse.{parse_document}
-use Rattle.toml.specs.Tables.{Nodes, no_nodes, open_table, implicit, header, get_node, insert, close, Document, Expression, std_table}
+use Rattle.toml.specs.Tables.{Node, Nodes, no_nodes, node, open_table, implicit, header, insert, close, Document, Expression, std_table, define, along_header, along_dots, at_key}
 use Rattle.toml.proofs.ReadLines.{run}
 use Rattle.toml.proofs.Fill.{run-append}
 use Rattle.iox2_config.specs.Defaults.{IsDefaultConfig}
 use Rattle.iox2_config.specs.declared.config.Config.{Config}
+use Rattle.iox2_config.specs.declared.config.event.Event.{Event}
+use Rattle.std.specs.declared.time.Duration.{Duration}
 use Rattle.iox2_config_file.specs.declared.section.Section.{Section}
 use Rattle.iox2_config_file.specs.declared.section.Section.TheVariants as section
 use Rattle.iox2_config_file.specs.Read.{sections}
 use Rattle.iox2_config_file.specs.Answers.{AreLegal}
-use Rattle.iox2_config_file.specs.Settings.{is_line, Setting, settings_in}
+use Rattle.iox2_config_file.specs.Settings.{is_line, Setting, event_settings, settings_in}
 use Rattle.iox2_config_file.specs.Values.{SettingValue, text, settings}
 use Rattle.iox2_config_file.specs.Write.{value_text, value_fits, section_misfits, located_misfits, misfits, IsHeaderText, IsTableText, IsTablesText, IsConfigText}
-use Rattle.iox2_config_file.proofs.Filling.{Pair, lines_of, keys_of, set_all, are_distinct, Focus, focus_root, focus_child, run_table, run_first}
 use Rattle.iox2_config_file.proofs.Reading.{Block, block_append, block_none, block_newline, block_comment, block_header, read_document}
-use Rattle.iox2_config_file.proofs.Written.{AreWritten, lines_append, rows_of, pair_of, entries_block}
+use Rattle.iox2_config_file.proofs.Written.{Pair, lines_of, set_all, AreWritten, lines_append, rows_of, pair_of, entries_block}
 
 -- the header of a table, as the reader has it
 abbrev pub headers : Section → List Expression
@@ -180,11 +181,6 @@ pub all_written : (default config : Config) → IsDefaultConfig default → misf
 all_written default config is fit legal s =
     grind (arith, rows_in_all, short_lines, short_in, fit_in)
 
--- no key of a table occurs twice
-pub distinct_in : (config : Config) (s : Section)
-    → are_distinct (keys_of (pairs_in s config)) ≡ true
-distinct_in config s = grind arith
-
 -- what the tables of the document hold
 abbrev pub table_nodes : Config → Section → Nodes
 table_nodes c s = set_all (pairs_in s c) no_nodes
@@ -214,42 +210,95 @@ at_defaults c ns = insert (codes "defaults") (open_table implicit ns) (at_global
 abbrev pub root_nodes : Config → Nodes
 root_nodes c = at_defaults c (defaults_nodes c)
 
-in_global : Focus (codes "global" ∷ []) at_global
-in_global = focus_child [] (λ x. x) (codes "global") header no_nodes focus_root
-
-in_defaults : (c : Config) → Focus (codes "defaults" ∷ []) (at_defaults c)
-in_defaults c =
-    focus_child [] (λ x. x) (codes "defaults") implicit (at_global (global_nodes c)) focus_root
-
 run_then : (doc next : Document) (es fs : List Expression) → run doc es ≡ Some next
     → run doc (es ++ fs) ≡ run next fs
 run_then doc next es fs h = grind (arith, run-append, run)
 
-abbrev rest_of : Config → List Section → List Expression
-rest_of c ss = flat_map (table_lines c) ss
+-- the lines of some tables
+abbrev lines_in : Config → List Section → List Expression
+lines_in c ss = flat_map (table_lines c) ss
 
--- the lines of a table, and those of the tables from this number on
-table_then : (c : Config) (s : Section) (n : ℕ) (path : List (List ℕ)) (hole : Nodes → Nodes)
-    (k : List ℕ) (ns : Nodes) (old : List (List ℕ)) → Focus path hole → get_node k ns ≡ None
-    → run (hole ns, old)
-    ((((path, k), std_table) ∷ lines_of (pairs_in s c)) ++ rest_of c (drop n sections))
-    ≡ run (hole (below k c s ns), path ++ k ∷ []) (rest_of c (drop n sections))
-table_then c s n path hole k ns old focus free =
-    run_then _ _ (((path, k), std_table) ∷ lines_of (pairs_in s c)) (rest_of c (drop n sections))
-    (run_table path hole k (pairs_in s c) ns old focus free (distinct_in c s))
+-- a document of `global` and of the tables in `defaults`
+abbrev of_both : Node → Nodes → Nodes
+of_both global defaults =
+    node (codes "defaults") (open_table implicit defaults)
+    (node (codes "global") global no_nodes)
+
+abbrev of_samples : Node → Nodes
+of_samples samples = node (codes "publish-subscribe") samples no_nodes
+
+-- the lines up to those of events, which are all written
+run_front : (c : Config) → run (no_nodes, []) (lines_in c (take 6 sections))
+    ≡ Some (
+      of_both (open_table header (global_nodes c))
+          (of_samples (open_table header (table_nodes c section.PublishSubscribe))),
+      codes "defaults" ∷ codes "publish-subscribe" ∷ [],
+    )
+unfolding define along_header along_dots at_key
+run_front c = refl
+
+-- the settings of events with these that may be left out
+abbrev with_options : Event → Option Duration → Option ℕ → Option ℕ → Option ℕ → List Pair
+with_options e deadline created dropped dead =
+    map pair_of (event_settings (record e {
+      deadline = deadline;
+      notifier_created_event = created;
+      notifier_dropped_event = dropped;
+      notifier_dead_event = dead;
+    }))
+
+run_events : (e : Event) (d : Option Duration) (x y z : Option ℕ) (global samples : Node)
+    → run (of_both global (of_samples samples), codes "defaults" ∷ codes "publish-subscribe" ∷ [])
+    (headers section.Event ++ lines_of (with_options e d x y z))
+    ≡ Some (
+      of_both global
+          (node (codes "event") (open_table header (set_all (with_options e d x y z) no_nodes))
+          (of_samples samples)),
+      codes "defaults" ∷ codes "event" ∷ [],
+    )
+unfolding define along_header along_dots at_key
+run_events e None None None None global samples = refl
+run_events e None None None (Some z) global samples = refl
+run_events e None None (Some y) None global samples = refl
+run_events e None None (Some y) (Some z) global samples = refl
+run_events e None (Some x) None None global samples = refl
+run_events e None (Some x) None (Some z) global samples = refl
+run_events e None (Some x) (Some y) None global samples = refl
+run_events e None (Some x) (Some y) (Some z) global samples = refl
+run_events e (Some d) None None None global samples = refl
+run_events e (Some d) None None (Some z) global samples = refl
+run_events e (Some d) None (Some y) None global samples = refl
+run_events e (Some d) None (Some y) (Some z) global samples = refl
+run_events e (Some d) (Some x) None None global samples = refl
+run_events e (Some d) (Some x) None (Some z) global samples = refl
+run_events e (Some d) (Some x) (Some y) None global samples = refl
+run_events e (Some d) (Some x) (Some y) (Some z) global samples = refl
+
+-- the lines below those of events
+run_back : (c : Config) (events : Nodes) (global samples : Node)
+    → run (
+      of_both global (node (codes "event") (open_table header events) (of_samples samples)),
+      codes "defaults" ∷ codes "event" ∷ [],
+    ) (lines_in c (drop 7 sections))
+    ≡ Some (
+      of_both global
+          (below (codes "blackboard") c section.Blackboard
+          (below (codes "request-response") c section.RequestResponse
+          (node (codes "event") (open_table header events) (of_samples samples)))),
+      codes "defaults" ∷ codes "blackboard" ∷ [],
+    )
+unfolding define along_header along_dots at_key
+run_back c events global samples = refl
 
 -- all lines of a configuration
-pub run_all : (c : Config) → run (no_nodes, []) (rest_of c sections)
+pub run_all : (c : Config) → run (no_nodes, []) (lines_in c sections)
     ≡ Some (root_nodes c, codes "defaults" ∷ codes "blackboard" ∷ [])
 run_all c =
-    table_then c section.Global 2 [] (λ x. x) (codes "global") no_nodes [] focus_root refl
-    ∙ table_then c section.Service 3 _ at_global (codes "service") _ _ in_global refl
-    ∙ table_then c section.Node 4 _ at_global (codes "node") _ _ in_global refl
-    ∙ run_then _ _ (table_lines c section.PublishSubscribe) (rest_of c (drop 6 sections))
-    (run_first (codes "defaults") (codes "publish-subscribe") (pairs_in section.PublishSubscribe c)
-    (at_global (global_nodes c)) _ refl (distinct_in c section.PublishSubscribe))
-    ∙ table_then c section.Event 7 _ (at_defaults c) (codes "event") _ _ (in_defaults c) refl
-    ∙ table_then c section.RequestResponse 8 _ (at_defaults c) (codes "request-response") _ _
-    (in_defaults c) refl
-    ∙ table_then c section.Blackboard 9 _ (at_defaults c) (codes "blackboard") _ _ (in_defaults c)
-    refl
+    let e = c.defaults.event in
+    let global = open_table header (global_nodes c) in
+    let samples = open_table header (table_nodes c section.PublishSubscribe) in
+    run_then _ _ (lines_in c (take 6 sections)) (lines_in c (drop 6 sections)) (run_front c)
+    ∙ run_then _ _ (table_lines c section.Event) (lines_in c (drop 7 sections))
+    (run_events e e.deadline e.notifier_created_event e.notifier_dropped_event
+    e.notifier_dead_event global samples)
+    ∙ run_back c (table_nodes c section.Event) global samples

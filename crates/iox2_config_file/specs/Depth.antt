@@ -90,22 +90,6 @@ nested p m ms =
 abbrev pub is_blank : ℕ → Bool
 is_blank b = ((((b == 32 || b == 9) || b == 13) || b == 10) || b == 35) || nat_le 128 b
 
--- the start of a line after a byte: a header is one table, and ends what was open before
-abbrev pub start : List Mark → ℕ → Nesting
-start ms b =
-    if is_blank b then record { position = position.Start; marks = ms }
-    else if b == 91 then record { position = position.Header; marks = mark.Header ∷ [] }
-    else record { position = position.Key; marks = ms }
-
--- a header after a byte: each dot is one table more
-abbrev pub header : List Mark → ℕ → Option Nesting
-header ms b =
-    if b == 46 then nested position.Header mark.Header ms
-    else Some (record {
-      position = if b == 10 then position.Start else position.Header;
-      marks = ms;
-    })
-
 -- behind a closed key and the byte that closed it: after a comma an inline table has a key, and a
 -- line ends where no bracket is open
 abbrev pub ended : Position → List Mark → ℕ → Nesting
@@ -124,26 +108,27 @@ close p ms b =
     if ((b == 93 || b == 125) || b == 44) || b == 10 then ended p (close_key ms) b
     else record { position = p; marks = ms }
 
--- a key after a byte: each dot is one table more
-abbrev pub key : List Mark → ℕ → Option Nesting
-key ms b =
+-- what is open after a byte that stands in no text and in no comment, if it is not too deep: a
+-- header is one table, and ends what was open before; each dot of it or of a key is one table more,
+-- and each array and each inline table is one more
+abbrev pub moved : Position → List Mark → ℕ → Option Nesting
+moved position.Start ms b =
+    if is_blank b then Some (record { position = position.Start; marks = ms })
+    else if b == 91
+    then Some (record { position = position.Header; marks = mark.Header ∷ [] })
+    else Some (record { position = position.Key; marks = ms })
+moved position.Header ms b =
+    if b == 46 then nested position.Header mark.Header ms
+    else if b == 10 then Some (record { position = position.Start; marks = ms })
+    else Some (record { position = position.Header; marks = ms })
+moved position.Key ms b =
     if b == 46 then nested position.Key mark.Dot ms
     else if b == 61 then Some (record { position = position.Value; marks = ms })
     else Some (close position.Key ms b)
-
--- a value after a byte: each array and each inline table is one more
-abbrev pub value : List Mark → ℕ → Option Nesting
-value ms b =
+moved position.Value ms b =
     if b == 91 then nested position.Value mark.Array ms
     else if b == 123 then nested position.Key mark.Table ms
     else Some (close position.Value ms b)
-
--- what is open after a byte that stands in no text and in no comment, if it is not too deep
-abbrev pub moved : Position → List Mark → ℕ → Option Nesting
-moved position.Start ms b = Some (start ms b)
-moved position.Header ms b = header ms b
-moved position.Key ms b = key ms b
-moved position.Value ms b = value ms b
 
 -- there is room, and this is open; or there is none
 abbrev pub Gives : Option Nesting → Bool → Nesting → Type 0

@@ -4,9 +4,8 @@
 ghost use Rattle.std.specs.Prelude.{◌≡◌, [], ◌∷◌, reverse, ◌<◌, IfSome, length};
 ghost use Rattle.iox2_config_file.specs.Depth.{begun, on_line, on_lines, follow, is_outside};
 ghost use Rattle.iox2_config_file.specs.Depth.{close_key, close_bracket, is_open, has_table};
-ghost use Rattle.iox2_config_file.specs.Depth.{Pushes, is_blank, start, ended, close, begin};
-ghost use Rattle.iox2_config_file.specs.Depth.{nested, header, key, value, moved, Gives, Steps};
-ghost use Rattle.iox2_config_file.specs.Depth.{too_deep};
+ghost use Rattle.iox2_config_file.specs.Depth.{Pushes, is_blank, nested, ended, close, moved};
+ghost use Rattle.iox2_config_file.specs.Depth.{Gives, begin, Steps, too_deep};
 
 use arrayvec::ArrayVec;
 use std::marker::Model;
@@ -255,35 +254,6 @@ impl Nesting {
         self.marks.push(mark)
     }
 
-    /// The start of a line after a byte.
-    fn start(&mut self, byte: u8)
-        ensures { self.new ≡ start self.old.marks byte }
-    {
-        if is_blank(byte) {
-            self.position = Position::Start;
-        } else if byte == b'[' {
-            self.position = Position::Header;
-            self.marks.begin_header();
-        } else {
-            self.position = Position::Key;
-        }
-    }
-
-    /// A header after a byte, where what it opens fits.
-    fn header(&mut self, byte: u8) -> bool
-        ensures { Gives (header self.old.marks byte) result self.new }
-    {
-        if byte == b'.' {
-            return self.nest(Position::Header, Mark::Header);
-        }
-        self.position = if byte == b'\n' {
-            Position::Start
-        } else {
-            Position::Header
-        };
-        true
-    }
-
     /// What is open behind a closed key and the byte that closed it.
     fn end(&mut self, byte: u8)
         ensures { self.new ≡ ended self.old.position self.old.marks byte }
@@ -314,49 +284,38 @@ impl Nesting {
         }
     }
 
-    /// A key after a byte, where what it opens fits.
-    fn key(&mut self, byte: u8) -> bool
-        requires { self.old.position ≡ Position.Key }
-        ensures { Gives (key self.old.marks byte) result self.new }
-    {
-        if byte == b'.' {
-            return self.nest(Position::Key, Mark::Dot);
-        }
-        if byte == b'=' {
-            self.position = Position::Value;
-            return true;
-        }
-        self.close(byte);
-        true
-    }
-
-    /// A value after a byte, where what it opens fits.
-    fn value(&mut self, byte: u8) -> bool
-        requires { self.old.position ≡ Position.Value }
-        ensures { Gives (value self.old.marks byte) result self.new }
-    {
-        if byte == b'[' {
-            return self.nest(Position::Value, Mark::Array);
-        }
-        if byte == b'{' {
-            return self.nest(Position::Key, Mark::Table);
-        }
-        self.close(byte);
-        true
-    }
-
     /// What is open after a byte that is in no text and in no comment, where what it opens fits.
     fn step(&mut self, byte: u8) -> bool
         ensures { Gives (moved self.old.position self.old.marks byte) result self.new }
     {
         match self.position {
-            Position::Start => {
-                self.start(byte);
+            Position::Start if is_blank(byte) => true,
+            Position::Start if byte == b'[' => {
+                self.position = Position::Header;
+                self.marks.begin_header();
                 true
             }
-            Position::Header => self.header(byte),
-            Position::Key => self.key(byte),
-            Position::Value => self.value(byte),
+            Position::Start => {
+                self.position = Position::Key;
+                true
+            }
+            Position::Header if byte == b'.' => self.nest(Position::Header, Mark::Header),
+            Position::Header if byte == b'\n' => {
+                self.position = Position::Start;
+                true
+            }
+            Position::Header => true,
+            Position::Key if byte == b'.' => self.nest(Position::Key, Mark::Dot),
+            Position::Key if byte == b'=' => {
+                self.position = Position::Value;
+                true
+            }
+            Position::Value if byte == b'[' => self.nest(Position::Value, Mark::Array),
+            Position::Value if byte == b'{' => self.nest(Position::Key, Mark::Table),
+            Position::Key | Position::Value => {
+                self.close(byte);
+                true
+            }
         }
     }
 }

@@ -14,7 +14,7 @@ use Rattle.config_report.specs.Text.{IsReportText}
 use Rattle.config_report.specs.Findings.{Checks, IsToml}
 use Rattle.config_report.specs.declared.finding.Findings.{Findings}
 use Rattle.settings_check.specs.Answer.{AreToml, IsTextOf}
-use Rattle.settings_check.specs.Found.{AreFound, AreParsed, IsSeenIn, Seen, ValidFile, valid_in, valid_view}
+use Rattle.settings_check.specs.Found.{AddsFiles, AreFound, AreParsed, IsSeenIn, Seen, ValidFile, nothing_seen, valid_in, valid_view}
 use Rattle.settings_check.specs.Answer.{input_is_read, AnswersArguments, Ends}
 use Rattle.settings_check.specs.Words.{Requests}
 use Rattle.settings_check.specs.declared.answer.Answer.{Answer}
@@ -68,12 +68,18 @@ seen_toml file (Err why) seen is = rw is (All-nil HasToml)
 seen_toml file (Ok bytes) seen (findings, checks, is) =
     rw is (valid_toml file bytes findings findings.config refl checks)
 
+files_toml : (Gives : List ℕ → Result (List ℕ) FileError → Type 0) (input : List ℕ)
+    (files : List (List ℕ)) (old new : Seen) → AreToml old.valid
+    → AddsFiles Gives input files old new → AreToml new.valid
+files_toml Gives input [] old new before is = rw is before
+files_toml Gives input (file ∷ files) old new before (next, (given, gives, (seen, here, is)), more) =
+    files_toml Gives input files next new
+    (rw is (All-append HasToml old.valid seen.valid before (seen_toml file given seen here))) more
+
 pub found_toml : (Gives : List ℕ → Result (List ℕ) FileError → Type 0) (input : List ℕ)
     (files : List (List ℕ)) (seen : Seen) → AreFound Gives input files seen → AreToml seen.valid
-found_toml Gives input [] seen is = rw is (All-nil HasToml)
-found_toml Gives input (file ∷ files) seen (first, others, (given, gives, here), more, is) =
-    rw is (All-append HasToml first.valid others.valid
-    (seen_toml file given first here) (found_toml Gives input files others more))
+found_toml Gives input files seen is =
+    files_toml Gives input files nothing_seen seen (All-nil HasToml) is
 
 -- where an outcome was written, the arguments are answered, or memory was refused
 pub ends_where_written : (Gives : List ℕ → Result (List ℕ) FileError → Type 0) (coloured : Bool)

@@ -3,7 +3,7 @@ use Rattle.std.proofs.Common.{arith, ◌≡◌, ℕ, ◌+◌, ◌≤◌, ◌<◌
 use Rattle.iox2_config_file.specs.declared.section.Row.{Row}
 use Rattle.iox2_config_file.specs.declared.section.Section.{Section}
 use Rattle.settings_check.specs.Schema.{comma_if, properties, property}
-use Rattle.settings_check.proofs.Lists.{split_at}
+use Rattle.iox2_config_file.proofs.Rowed.{split_at}
 
 -- one key more is written
 pub property_next : (s : Section) (rows : List Row) (i : ℕ) (d : Row) (is_first : Bool)

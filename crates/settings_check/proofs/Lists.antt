@@ -1,13 +1,8 @@
 -- What is made of the items of a list, and of the characters of a text, one after the other.
-use Rattle.std.proofs.Common.{◌≡◌, ℕ, ◌+◌, ◌<◌, List, [], ◌∷◌, ◌++◌, length, map, drop, get_or, refl, add-one, append_assoc, append-nil, arith, drop-cons, IsUtf8, chars, encode_utf8}
+use Rattle.std.proofs.Common.{◌≡◌, ℕ, ◌+◌, List, [], ◌∷◌, ◌++◌, length, map, append_assoc, append-nil, arith, IsUtf8, chars, encode_utf8}
 use Rattle.std.specs.Prelude.{flat_map}
 use Rattle.std.proofs.lemmas.Str.{chars-nil, chars_past_char}
 use Rattle.settings_check.specs.Lines.{printable, printable_char}
-
--- the list from an index on begins with the item there
-pub split_at : {A : Type 0} (xs : List A) (i : ℕ) (d : A) → i < length xs
-    → drop i xs ≡ get_or xs i d ∷ drop (i + 1) xs
-split_at xs i d lt = rw add-one (drop-cons xs i d lt)
 
 -- one of some items more is taken
 pub items_more : {A B : Type 0} (f : A → B) (out new whole : List B) (xs rest : List A) (x : A)
@@ -20,10 +15,6 @@ pub items_end : {A B : Type 0} (f : A → B) (out before : List B) (xs first ys 
     → out ++ map f xs ≡ before ++ map f first → xs ≡ [] → first ≡ ys
     → out ≡ before ++ map f ys
 items_end f out before xs first ys same none all = grind (arith, append-nil)
-
-pub nothing_left : {A : Type 0} (xs : List A) → length xs ≡ 0 → xs ≡ []
-nothing_left [] h = refl
-nothing_left (x ∷ xs) h = absurd (omega arith)
 
 -- one text behind another, of three and of five
 pub three : (old a b c first second new : List ℕ) → first ≡ old ++ a → second ≡ first ++ b

@@ -124,32 +124,29 @@ IsSeenIn file (Ok bytes) seen =
     (findings : Findings) × Checks bytes findings × (seen ≡ findings_seen file bytes findings)
 IsSeenIn file (Err why) seen = seen ≡ record { said = []; unread = (file, why) ∷ []; valid = [] }
 
--- what is found in a file, read by its name or from the standard input
-abbrev pub IsFound : (List ℕ → Result (List ℕ) FileError → Type 0) → List ℕ → List ℕ → Seen
-    → Type 0
-IsFound Gives input file seen =
-    (given : Result (List ℕ) FileError) × IsGiven Gives input file given
-    × IsSeenIn file given seen
-
 -- what is found in a file for which this is given is added
 abbrev pub AddsGiven : List ℕ → Result (List ℕ) FileError → Seen → Seen → Type 0
 AddsGiven file given old new =
     (seen : Seen) × IsSeenIn file given seen × (new ≡ both_seen old seen)
 
--- what is found in a file is added
+-- what is found in a file, read by its name or from the standard input, is added
 abbrev pub AddsFile : (List ℕ → Result (List ℕ) FileError → Type 0) → List ℕ → List ℕ → Seen
     → Seen → Type 0
 AddsFile Gives input file old new =
     (given : Result (List ℕ) FileError) × IsGiven Gives input file given
     × AddsGiven file given old new
 
--- what is found in some files, one after the other
+-- what is found in some files is added, one after the other
+abbrev pub AddsFiles : (List ℕ → Result (List ℕ) FileError → Type 0) → List ℕ → List (List ℕ)
+    → Seen → Seen → Type 0
+AddsFiles Gives input [] old new = new ≡ old
+AddsFiles Gives input (file ∷ files) old new =
+    (next : Seen) × AddsFile Gives input file old next × AddsFiles Gives input files next new
+
+-- what is found in some files
 abbrev pub AreFound : (List ℕ → Result (List ℕ) FileError → Type 0) → List ℕ → List (List ℕ)
     → Seen → Type 0
-AreFound Gives input [] seen = seen ≡ nothing_seen
-AreFound Gives input (file ∷ files) seen =
-    (first : Seen) × (others : Seen) × IsFound Gives input file first
-    × AreFound Gives input files others × (seen ≡ both_seen first others)
+AreFound Gives input files seen = AddsFiles Gives input files nothing_seen seen
 
 -- all processes of one system share the settings of the table
 abbrev pub is_shared : Section → Bool

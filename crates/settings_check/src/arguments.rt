@@ -230,7 +230,7 @@ fn request_with(chosen: Chosen, files: Vec<String>) -> Result<Request, RequestEr
 }
 
 /// What the words after the first request.
-#[tactic(auto, using(crate::proofs::Lists::nothing_left, crate::proofs::Saying::words_end, crate::proofs::Saying::drop_first))]
+#[tactic(auto, using(std::proofs::lemmas::List::nil_from_length, crate::proofs::Saying::words_end, crate::proofs::Saying::drop_first))]
 fn request_in(alloc: Global, words: Args) -> Result<Request, RequestError>
     ensures { RequestsIn (drop 1 (words_of words)) result }
 {

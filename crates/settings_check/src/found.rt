@@ -134,7 +134,7 @@ pub(crate) struct Found<'a> {
 }
 
 /// Adds what was found in one file to what was found before.
-#[tactic(auto, using(crate::proofs::Lists::items_end, crate::proofs::Lists::nothing_left, crate::proofs::Lists::items_more, crate::proofs::Finding::reported))]
+#[tactic(auto, using(crate::proofs::Lists::items_end, std::proofs::lemmas::List::nil_from_length, crate::proofs::Lists::items_more, crate::proofs::Finding::reported))]
 fn add_findings<'a>(
     reports: &mut Vec<Report<'a>>,
     file: &'a str,

@@ -1,17 +1,14 @@
--- What a text that is TOML goes on with, a line at a time, and what is known of the positions of
--- paths as it is gone over.
-use Rattle.std.proofs.Common.{◌≡◌, ℕ, zero, suc, ◌-◌, ◌<◌, ◌==◌, Bool, true, false, List, [], ◌∷◌, length, Option, Some, None, option_and_then, IsSome, refl, ap, ◌∙◌, arith}
-use Rattle.std.specs.Option.{option_or}
-use Rattle.std.specs.Prelude.{if◌then◌else◌, is_some, option_map}
+-- What a text that is TOML goes on with, a line at a time.
+use Rattle.std.proofs.Common.{◌≡◌, ℕ, zero, suc, ◌-◌, ◌<◌, ◌==◌, Bool, true, false, List, [], ◌∷◌, ◌++◌, length, append_assoc, Option, Some, None, option_and_then, IsSome, refl, ◌∙◌, arith}
+use Rattle.std.specs.Prelude.{if◌then◌else◌, option_map}
 use Rattle.std.proofs.lemmas.Bool.{false≢true}
 use Rattle.std.proofs.lemmas.Bool.Decides.{nat_tests}
 use Rattle.std.proofs.lemmas.Option.{none-some, option_and_then_some}
 use Rattle.toml_parser.specs.Lexical.{Read, skip_blank, skip_ws}
 use Rattle.toml.specs.Tables.{Document, Expression, define, no_nodes, close}
 use Rattle.toml.specs.Parse.{line, lines, expression, ends_line, skip_bom, parse_document}
-use Rattle.toml_positions.specs.Position.{position_of}
-use Rattle.toml_positions.specs.declared.position.Position.{Position}
-use Rattle.toml_positions.specs.Written.{Written, written, written_below, writes, seen, path_below, header_after, past_brackets, first_position, marked}
+use Rattle.toml_parser.specs.Strings.{Key}
+use Rattle.toml_positions.specs.Written.{Written, written, written_below, seen, path_below, header_after, past_brackets}
 
 -- a text that goes on with a line
 pub record Line (m : ℕ) (doc final : Document) (text : List ℕ) : Type 0 where
@@ -74,60 +71,44 @@ no_line None refuted = refl
 no_line (Some e) refuted = absurd (refuted e refl)
 
 -- one expression more
-below : (m : ℕ) (header : List (List ℕ)) (text after : List ℕ) (e : Expression) → 0 < m
-    → line (skip_blank text) ≡ Some (e, after)
-    → written_below m header text
-    ≡ written (past_brackets (skip_blank text)) (path_below header (seen e)) (seen e).1
-    ∷ written_below (m - 1) (header_after header (seen e)) after
+below : (text : List ℕ) (m : ℕ) (header : List (List ℕ)) (left after : List ℕ) (e : Expression)
+    → 0 < m → line (skip_blank left) ≡ Some (e, after)
+    → written_below text m header left
+    ≡ written (length text - length (past_brackets (skip_blank left))) (path_below header (seen e))
+    (seen e).1
+    ∷ written_below text (m - 1) (header_after header (seen e)) after
 unfolding written_below
-below zero header text after e some read = absurd (omega arith)
-below (suc m) header text after e some read =
+below text zero header left after e some read = absurd (omega arith)
+below text (suc m) header left after e some read =
     let less : suc m - 1 ≡ m = omega arith in rw (read, less) refl
 
-pub none_below : (m : ℕ) (header : List (List ℕ)) (text whole : List ℕ) (path : List (List ℕ))
-    → line (skip_blank text) ≡ None → first_position whole path (written_below m header text) ≡ None
+pub none_below : (text : List ℕ) (m : ℕ) (header : List (List ℕ)) (left : List ℕ)
+    → line (skip_blank left) ≡ None → written_below text m header left ≡ []
 unfolding written_below
-none_below zero header text whole path none = refl
-none_below (suc m) header text whole path none = rw none refl
+none_below text zero header left none = refl
+none_below text (suc m) header left none = rw none refl
 
--- where one expression more was noted, the others are still to come
-marked_by : (found more there : Option Position) (b : Bool)
-    → option_or (if is_some found then found else if b then there else None) more
-    ≡ option_or found (option_or (if b then there else None) more)
-marked_by (Some position) more there b = refl
-marked_by None more there b = refl
+-- the header in force below an expression, by its path
+pub next_header : (header : List (List ℕ)) (key : Key) (pair : Bool)
+    → (if pair then header else path_below header (key, pair)) ≡ header_after header (key, pair)
+next_header header key true = refl
+next_header header key false = refl
 
-first_by : (position : Position) (more : Option Position) (b : Bool)
-    → option_or (if b then Some position else None) more ≡ (if b then Some position else more)
-first_by position more true = refl
-first_by position more false = refl
+pub same_written : (a b : ℕ) (p q : List (List ℕ)) (x y : Bool) → a ≡ b → p ≡ q → x ≡ y
+    → written a p x ≡ written b q y
+same_written a b p q x y e f g = cc
 
-known_marked : (text : List ℕ) (w : Written) (ws : List Written) (path : List (List ℕ))
-    (found : Option Position)
-    → option_or (marked text w path found) (first_position text path ws)
-    ≡ option_or found (first_position text path (w ∷ ws))
-known_marked text w ws path found =
-    let position = position_of text w.from_key in
-    marked_by found (first_position text path ws) (Some position) (writes w path)
-    ∙ ap (λ o. option_or found o) (first_by position (first_position text path ws) (writes w path))
-
-pub known_step : (m : ℕ) (header : List (List ℕ)) (text whole rest : List ℕ) (e : Expression)
-    (path : List (List ℕ)) (found : Option Position) (from_key : List ℕ) (keys : List (List ℕ))
-    (pair : Bool) (next : List (List ℕ)) (after : List ℕ) (position : Option Position)
-    → 0 < m → line (skip_blank text) ≡ Some (e, rest)
-    → from_key ≡ past_brackets (skip_blank text) → keys ≡ path_below header (seen e)
-    → pair ≡ (seen e).1 → next ≡ header_after header (seen e) → after ≡ rest
-    → option_or found (first_position whole path (written_below m header text)) ≡ position
-    → option_or (marked whole (written from_key keys pair) path found)
-    (first_position whole path (written_below (m - 1) next after)) ≡ position
-known_step m header text whole rest e path found from_key keys pair next after position some read
-    from_is keys_is pair_is next_is after_is known =
-    let w = written (past_brackets (skip_blank text)) (path_below header (seen e)) (seen e).1 in
-    let ws = written_below (m - 1) (header_after header (seen e)) rest in
-    let all : option_or found (first_position whole path (w ∷ ws)) ≡ position =
-    rw (below m header text rest e some read) at known in
-    rw (from_is, keys_is, pair_is, next_is, after_is) (known_marked whole w ws path found ∙ all)
-
-pub known_all : (found : Option Position) → option_or found None ≡ found
-known_all None = refl
-known_all (Some position) = refl
+-- where one expression more was read, the others are still to come
+pub one_more : (text : List ℕ) (m : ℕ) (header next : List (List ℕ)) (left after rest : List ℕ)
+    (e : Expression) (w : Written) (done new whole : List Written) → 0 < m
+    → line (skip_blank left) ≡ Some (e, rest)
+    → w
+    ≡ written (length text - length (past_brackets (skip_blank left)))
+    (path_below header (seen e)) (seen e).1
+    → next ≡ header_after header (seen e) → after ≡ rest → new ≡ done ++ w ∷ []
+    → done ++ written_below text m header left ≡ whole
+    → new ++ written_below text (m - 1) next after ≡ whole
+one_more text m header next left after rest e w done new whole some read is next_is after_is added
+    before =
+    let all = rw (below text m header left rest e some read) at before in
+    rw (added, is, next_is, after_is) (append_assoc done _ _ ∙ all)

@@ -8,7 +8,7 @@ use Rattle.toml.specs.Data.{Data, Items, array, table, no_items, push_item}
 use Rattle.toml.specs.Tables.{Nodes, no_nodes, put, Expression, key_value}
 use Rattle.toml.specs.Parse.{read_map, after_element, key_equals, keyval, items, members, val, expression}
 use Rattle.toml.proofs.Turns.{val_atom, val_deep}
-use Rattle.toml_positions.specs.Reading.{past_atom, closing_of, element_value, past_elements, past_value, seen_view, seen_in}
+use Rattle.toml_positions.specs.Reading.{past_atom, closing_of, past_element, past_elements, past_value, seen_view, seen_in}
 
 -- what a mapped value was made of
 mapped : {A B P : Type 0} (f : A → B) (o : Option A) (x : B) → option_map f o ≡ Some x
@@ -150,12 +150,8 @@ pub elements_turn : (past : List ℕ → Option (List ℕ)) (closing m : ℕ) (t
     (whole : Option (List ℕ)) → 0 < m → start ≡ skip_blank text
     → past_elements past closing m text ≡ whole
     → (if first start == closing then Some (drop 1 start)
-    else
-    option_and_then
-    (λ at. option_and_then
-    (λ after. option_and_then (past_elements past closing (m - 1)) (after_element closing after))
-    (past at))
-    (element_value closing start)) ≡ whole
+    else option_and_then (past_elements past closing (m - 1)) (past_element past closing start))
+    ≡ whole
 unfolding past_elements
 elements_turn past closing zero text start whole some starts is = absurd (omega arith)
 elements_turn past closing (suc m) text start whole some starts is =

@@ -1,5 +1,5 @@
 -- Where a byte of a text stands.
-use Rattle.std.specs.Prelude.{ℕ, ◌+◌, ◌-◌, ◌==◌, if◌then◌else◌, List, [], ◌∷◌, length, take, count_by}
+use Rattle.std.specs.Prelude.{ℕ, ◌+◌, ◌==◌, if◌then◌else◌, List, [], ◌∷◌, count_by}
 use Rattle.toml.specs.Parse.{skip_bom}
 use Rattle.toml_positions.specs.declared.position.Position.{Position}
 
@@ -15,7 +15,3 @@ position_after text = record {
   line = count_by (λ c. c == 10) text + 1;
   column = column_after 1 (skip_bom text);
 }
-
--- the position of what is left of a text
-abbrev pub position_of : List ℕ → List ℕ → Position
-position_of text left = position_after (take (length text - length left) text)

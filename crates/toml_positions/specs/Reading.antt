@@ -29,18 +29,18 @@ abbrev pub element_value : ℕ → List ℕ → Option (List ℕ)
 element_value closing text =
     if closing == right_brace then option_map (λ p. p.1) (key_equals text) else Some text
 
+-- what follows an element, and the comma behind it
+abbrev pub past_element : (List ℕ → Option (List ℕ)) → ℕ → List ℕ → Option (List ℕ)
+past_element past closing text =
+    option_and_then (after_element closing) (option_and_then past (element_value closing text))
+
 -- what follows the elements of an array or of an inline table, at most n, and its closing bracket
 unfoldable pub past_elements : (List ℕ → Option (List ℕ)) → ℕ → ℕ → List ℕ → Option (List ℕ)
 past_elements past closing zero text = None
 past_elements past closing (suc n) text =
     let start = skip_blank text in
     if first start == closing then Some (drop 1 start)
-    else
-    option_and_then
-    (λ at. option_and_then
-    (λ after. option_and_then (past_elements past closing n) (after_element closing after))
-    (past at))
-    (element_value closing start)
+    else option_and_then (past_elements past closing n) (past_element past closing start)
 
 -- what follows a value with arrays and inline tables at most so deep
 unfoldable pub past_value : ℕ → List ℕ → Option (List ℕ)

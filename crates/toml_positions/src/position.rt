@@ -1,17 +1,19 @@
 //! Lines and columns, and those where paths of keys are written: the expressions of a text are gone
 //! over, headers, and pairs of a key and a value, of which only the end is looked for.
-ghost use Rattle.std.specs.Prelude.{◌≡◌, ℕ, ◌<◌, ◌≤◌, ◌++◌, [], take, length, map, slice_index_or};
-ghost use Rattle.std.specs.Prelude.{None, Some, IfOk, IfSome, OnOk, IsSome, option_map, true};
+ghost use Rattle.std.specs.Prelude.{◌≡◌, ℕ, ◌<◌, ◌≤◌, ◌++◌, [], length, map, take, slice_index_or};
+ghost use Rattle.std.specs.Prelude.{IfOk, IfSome, IsSome, OnOk, Some, option_map};
+ghost use Rattle.std.specs.Prelude.{if◌then◌else◌};
 ghost use Rattle.toml_parser.specs.Lexical.{first, left_bracket};
 ghost use Rattle.toml_parser.specs.Reading.{key_view, path_view as keys_view};
 ghost use Rattle.toml_parser.specs.Strings.{key};
 ghost use Rattle.toml.specs.Parse as spec;
 ghost use Rattle.toml_positions.specs.Position.{column_after, position_after};
 ghost use Rattle.toml_positions.specs.Reading.{Shortens, closing_of, element_value, head_view};
-ghost use Rattle.toml_positions.specs.Reading.{past_atom, past_elements, past_value, seen_in};
-ghost use Rattle.toml_positions.specs.Reading.{seen_view};
-ghost use Rattle.toml_positions.specs.Written.{agree, parts, path_below, header_after, path_view};
-ghost use Rattle.toml_positions.specs.Written.{written, writes, marked, past_brackets, ArePlaces};
+ghost use Rattle.toml_positions.specs.Reading.{past_atom, past_element, past_elements, past_value};
+ghost use Rattle.toml_positions.specs.Reading.{seen_in, seen_view};
+ghost use Rattle.toml_positions.specs.Written.{agree, writes, parts, path_below, path_view};
+ghost use Rattle.toml_positions.specs.Written.{first_position, past_brackets, written_in, ArePlaces};
+ghost use Rattle.toml_positions.specs.Written.{written_view};
 
 use std::alloc::{AllocError, Global};
 use toml_parser::text::{byte_at, first, skip, skip_blank, skip_ws};
@@ -87,13 +89,31 @@ fn skip_bom(text: &str) -> &str
     }
 }
 
-/// Whether two paths agree as far as both go.
-#[tactic(auto, using(crate::proofs::Paths::agree_past))]
-fn agree(keys: &[String], path: &[&str]) -> bool
-    ensures { result ≡ agree (keys_view keys.now) (map (λ k. k.now) path.now) }
+impl<'a> KeyPath<'a> {
+    /// The key of this index.
+    #[tactic(auto, using(crate::proofs::Paths::key_above, crate::proofs::Paths::key_last))]
+    fn at(&self, index: usize) -> &'a str
+        requires { index ≤ length self.now.table.now }
+        ensures { result.now ≡ slice_index_or (path_view self.now) index [] }
+    {
+        if index < self.table.len() {
+            self.table[index]
+        } else {
+            self.key
+        }
+    }
+}
+
+/// Whether the path of an expression and another one agree as far as both go.
+#[tactic(auto, using(crate::proofs::Paths::agree_next, crate::proofs::Paths::agree_past, crate::proofs::Paths::path_size))]
+fn agree(keys: &[String], path: &KeyPath<'_>) -> bool
+    ensures { result ≡ agree (keys_view keys.now) (path_view path.now) }
 {
-    for at in 0..keys.len().min(path.len()) {
-        if keys[at].as_str() != path[at] {
+    for index in 0..keys.len() {
+        if path.table.len() < index {
+            return true;
+        }
+        if keys[index].as_str() != path.at(index) {
             return false;
         }
     }
@@ -101,18 +121,33 @@ fn agree(keys: &[String], path: &[&str]) -> bool
 }
 
 /// Whether an expression writes a path.
-#[tactic(auto, using(crate::proofs::Paths::writes_apart))]
+#[tactic(auto, using(crate::proofs::Paths::goes_on))]
 fn writes(keys: &[String], pair: bool, path: &KeyPath<'_>) -> bool
-    ensures { (start : _) → result
-        ≡ writes (written start (keys_view keys.now) pair) (path_view path.now) }
+    ensures { result ≡ writes (keys_view keys.now) pair (path_view path.now) }
 {
-    if !agree(keys, path.table) {
-        return false;
+    agree(keys, path) && (pair || path.table.len() < keys.len())
+}
+
+/// An expression of a text.
+#[derive(Drop)]
+struct Written {
+    /// How many bytes stand before its key.
+    before: usize,
+    /// The path of its key.
+    path: Vec<String>,
+    /// Whether it is a pair, and no header.
+    pair: bool,
+}
+
+/// A copy of some keys.
+fn copied(alloc: Global, keys: &[String]) -> Result<Vec<String>, AllocError>
+    ensures { IfOk result (λ copy. keys_view copy.items ≡ keys_view keys.now) }
+{
+    let mut copy = Vec::new(alloc);
+    for key in keys {
+        copy.push(String::from_str(alloc, key.as_str())?)?;
     }
-    if keys.len() <= path.table.len() {
-        return pair;
-    }
-    keys[path.table.len()].as_str() == path.key
+    Ok(copy)
 }
 
 /// Appends the keys of an expression to a path.
@@ -130,70 +165,84 @@ fn lead(path: &mut Vec<String>, key: Key) -> Result<(), AllocError>
     Ok(())
 }
 
-/// Makes a path that begins with the `header` keys of the header in force the path of the next
-/// expression. Returns how many of its keys are the header in force after that.
-fn enter(path: &mut Vec<String>, header: usize, head: Head) -> Result<usize, AllocError>
-    requires { header ≤ length path.old.items }
-    ensures path { IfOk result (λ _. keys_view path.new.items
-        ≡ path_below (take header (keys_view path.old.items)) (key_view head.key, head.pair)) }
-    ensures header { IfOk result (λ n. take n (keys_view path.new.items)
-        ≡ header_after (take header (keys_view path.old.items)) (key_view head.key, head.pair)) }
-    ensures within { IfOk result (λ n. n ≤ length path.new.items) }
+/// The path of an expression below the header in force.
+fn path_below(alloc: Global, header: &[String], head: Head) -> Result<Vec<String>, AllocError>
+    ensures { IfOk result (λ path. keys_view path.items
+        ≡ path_below (keys_view header.now) (key_view head.key, head.pair)) }
 {
     if head.pair {
-        path.truncate(header);
-        lead(path, head.key)?;
+        let mut path = copied(alloc, header)?;
+        lead(&mut path, head.key)?;
+        Ok(path)
+    } else {
+        let mut path = Vec::new(alloc);
+        lead(&mut path, head.key)?;
+        Ok(path)
+    }
+}
+
+/// The header in force below an expression.
+fn header_below(
+    alloc: Global,
+    header: Vec<String>,
+    path: &[String],
+    pair: bool,
+) -> Result<Vec<String>, AllocError>
+    ensures { IfOk result (λ next. keys_view next.items
+        ≡ (if pair then keys_view header.items else keys_view path.now)) }
+{
+    if pair {
         Ok(header)
     } else {
-        path.truncate(0);
-        lead(path, head.key)?;
-        Ok(path.len())
+        copied(alloc, path)
     }
 }
 
-/// What is known of a path after an expression: where it was written above, or else the position of
-/// this one, if it writes the path.
-fn marked(
-    found: Option<Position>,
-    path: &KeyPath<'_>,
-    keys: &[String],
-    pair: bool,
-    text: &str,
-    from_key: &str,
-) -> Option<Position>
-    requires { length from_key.now ≤ length text.now }
-    ensures { result ≡ marked text.now (written from_key.now (keys_view keys.now) pair)
-        (path_view path.now) found }
+/// The expressions of a text that is TOML, in their order.
+#[tactic(auto, using(crate::proofs::Known::document_lines))]
+fn written_in(alloc: Global, text: &str) -> Result<Vec<Written>, AllocError>
+    ensures { IfOk result (λ all. IsSome (spec.parse_document text.now)
+        → map written_view all.items ≡ written_in text.now) }
 {
-    if found.is_some() {
-        return found;
+    let mut all = Vec::new(alloc);
+    let mut header = Vec::new(alloc);
+    let mut rest = skip_bom(text);
+    'expressions: loop {
+        let start = skip_blank(rest, true);
+        let Some((head, after)) = read_expression(alloc, start)? else {
+            return Ok(all);
+        };
+        let pair = head.pair;
+        let path = path_below(alloc, header.as_slice(), head)?;
+        header = header_below(alloc, header, path.as_slice(), pair)?;
+        let before = text.len() - past_brackets(start).len();
+        all.push(Written { before, path, pair })?;
+        rest = after;
     }
-    if writes(keys, pair, path) {
-        Some(position_after(&text.as_bytes()[..text.len() - from_key.len()]))
+}
+
+/// The position behind so many bytes of a text.
+#[tactic(auto, using(std::proofs::Common::take_all))]
+fn position_behind(text: &str, before: usize) -> Position
+    ensures { result ≡ position_after (take before text.now) }
+{
+    if before < text.len() {
+        position_after(&text.as_bytes()[..before])
     } else {
-        None
+        position_after(text.as_bytes())
     }
 }
 
-/// Notes the position of an expression for the paths that it writes, but for those that were
-/// written above.
-fn mark(
-    found: &mut [Option<Position>],
-    paths: &[KeyPath<'_>],
-    keys: &[String],
-    pair: bool,
-    text: &str,
-    from_key: &str,
-)
-    requires each { length found.old ≡ length paths.now }
-    requires within { length from_key.now ≤ length text.now }
-    ensures { (k : ℕ) → k < length paths.now → slice_index_or found.new k None
-        ≡ marked text.now (written from_key.now (keys_view keys.now) pair)
-        (slice_index_or (map path_view paths.now) k []) (slice_index_or found.old k None) }
+/// The position of the first of some expressions of a text that writes a path.
+fn first_position(text: &str, all: &[Written], path: &KeyPath<'_>) -> Option<Position>
+    ensures { result ≡ first_position text.now (path_view path.now) (map written_view all.now) }
 {
-    for (i, path) in paths.iter().enumerate() {
-        found[i] = marked(found[i], path, keys, pair, text, from_key);
+    for written in all {
+        if writes(written.path.as_slice(), written.pair, path) {
+            return Some(position_behind(text, written.before));
+        }
     }
+    None
 }
 
 /// The position where each of some paths of keys is first written in a text that is TOML: the key
@@ -201,7 +250,6 @@ fn mark(
 /// through. A path that no expression writes has none.
 ///
 /// The text is gone over once. Nothing is said of a text that is no TOML.
-#[tactic(auto, using(crate::proofs::Known::document_lines))]
 pub fn positions_of(
     alloc: Global,
     text: &str,
@@ -210,29 +258,12 @@ pub fn positions_of(
     ensures { IfOk result (λ found. IsSome (spec.parse_document text.now)
         → ArePlaces text.now (map path_view paths.now) found.items) }
 {
+    let all = written_in(alloc, text)?;
     let mut found = Vec::new(alloc);
-    found.resize(paths.len(), None)?;
-    let mut keys = Vec::new(alloc);
-    let mut header = 0;
-    let mut rest = skip_bom(text);
-    'expressions: loop {
-        let start = skip_blank(rest, true);
-        let Some((head, after)) = read_expression(alloc, start)? else {
-            return Ok(found);
-        };
-        let pair = head.pair;
-        header = enter(&mut keys, header, head)?;
-        let from_key = past_brackets(start);
-        mark(
-            found.as_mut_slice(),
-            paths,
-            keys.as_slice(),
-            pair,
-            text,
-            from_key,
-        );
-        rest = after;
+    for path in paths {
+        found.push(first_position(text, all.as_slice(), path))?;
     }
+    Ok(found)
 }
 
 /// An expression without its value.
@@ -397,17 +428,27 @@ fn after_elements(
         if first(start) == closing {
             return Ok(Some(skip(start, 1)));
         }
-        let Some(at_value) = element_value(alloc, start, closing)? else {
-            return Ok(None);
-        };
-        let Some(after) = after_value(alloc, at_value, depth)? else {
-            return Ok(None);
-        };
-        let Some(next) = after_element(after, closing) else {
+        let Some(next) = after_one(alloc, start, depth, closing)? else {
             return Ok(None);
         };
         rest = next;
     }
+}
+
+/// What follows an element, and the comma behind it.
+#[cycle(value)]
+fn after_one(alloc: Global, s: &str, depth: usize, closing: u8) -> Result<Option<&str>, AllocError>
+    ensures value { IfOk result (λ o.
+        option_map (λ r. r.now) o ≡ past_element (past_value depth) closing s.now) }
+    ensures shorter { Shortens (λ r. r.now) s.now result }
+{
+    let Some(at_value) = element_value(alloc, s, closing)? else {
+        return Ok(None);
+    };
+    let Some(after) = after_value(alloc, at_value, depth)? else {
+        return Ok(None);
+    };
+    Ok(after_element(after, closing))
 }
 
 /// Where the value of an element begins: in an inline table behind its key.

@@ -23,49 +23,21 @@ after_elements-returns-in_default-clause-value c c' n h =
     let open_ : (first c'.skip_blank-start.result.now == c'.args.closing) ≡ false =
     grind (arith, common_steps) in
     let turn = elements_turn _ _ m _ _ _ (omega arith) c'.skip_blank-start.ensures.rest same in
-    let none = found_at _ _ _ c'.in_ok-at_value.ensures.value c'.in_default.is in
+    let none = found_at _ _ _ c'.in_ok-next.ensures.value c'.in_default.is in
     rw (open_, none) at turn
-
-pub after_elements-returns-in_default-2-clause-value :
-    goal.after_elements-returns-in_default-2-clause-value
-after_elements-returns-in_default-2-clause-value c c' n h =
-    let (m, room, same) = c'.elements.invariant.2 n h in
-    let open_ : (first c'.skip_blank-start.result.now == c'.args.closing) ≡ false =
-    grind (arith, common_steps) in
-    let turn = elements_turn _ _ m _ _ _ (omega arith) c'.skip_blank-start.ensures.rest same in
-    let at = found_at _ _ _ c'.in_ok-at_value.ensures.value c'.in-Some.is in
-    let none = found_at _ _ _ c'.in_ok-after.ensures.value c'.in_default-2.is in
-    rw (open_, at, none) at turn
-
-pub after_elements-returns-in_default-after_element-clause-value :
-    goal.after_elements-returns-in_default-after_element-clause-value
-after_elements-returns-in_default-after_element-clause-value c c' n h =
-    let (m, room, same) = c'.elements.invariant.2 n h in
-    let open_ : (first c'.skip_blank-start.result.now == c'.args.closing) ≡ false =
-    grind (arith, common_steps) in
-    let turn = elements_turn _ _ m _ _ _ (omega arith) c'.skip_blank-start.ensures.rest same in
-    let at = found_at _ _ _ c'.in_ok-at_value.ensures.value c'.in-Some.is in
-    let past = found_at _ _ _ c'.in_ok-after.ensures.value c'.in-Some-2.is in
-    rw (open_, at, past, ← c'.in_default-after_element.ensures.value) at turn
 
 pub after_elements-elements-preserved : goal.after_elements-elements-preserved
 after_elements-elements-preserved c c' =
     let open_ : (first c'.skip_blank-start.result.now == c'.args.closing) ≡ false =
     grind (arith, common_steps) in
     let before = c'.skip_blank-start.ensures.within in
-    let start = rw c'.in-Some.is at c'.in_ok-at_value.ensures.within in
-    let shorter = rw c'.in-Some-2.is at c'.in_ok-after.ensures.shorter in
-    let within = c'.in-Some-after_element.ensures.within in (
+    let shorter = rw c'.in-Some.is at c'.in_ok-next.ensures.shorter in (
       search rules,
       omega (arith, c'.elements.invariant.1),
       λ n h.
           let (m, room, same) = c'.elements.invariant.2 n h in
           let turn =
           elements_turn _ _ m _ _ _ (omega arith) c'.skip_blank-start.ensures.rest same in
-          let at = found_at _ _ _ c'.in_ok-at_value.ensures.value c'.in-Some.is in
-          let past = found_at _ _ _ c'.in_ok-after.ensures.value c'.in-Some-2.is in (
-            m - 1,
-            omega arith,
-            rw (open_, at, past, ← c'.in-Some-after_element.ensures.value) at turn,
-          ),
+          let next = found_at _ _ _ c'.in_ok-next.ensures.value c'.in-Some.is in
+          (m - 1, omega arith, rw (open_, next) at turn),
     )

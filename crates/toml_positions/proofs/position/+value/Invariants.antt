@@ -5,10 +5,13 @@ use Rattle.toml_positions.specs.Reading.{past_elements, past_value}
 use Rattle.toml_positions.proofs.position.+value.Given as goal
 
 abbrev pub decreases-after_elements : goal.decreases-after_elements
-decreases-after_elements l = 2 * l.depth + 2
+decreases-after_elements l = 3 * l.depth + 3
+
+abbrev pub decreases-after_one : goal.decreases-after_one
+decreases-after_one l = 3 * l.depth + 2
 
 abbrev pub decreases-after_value : goal.decreases-after_value
-decreases-after_value l = 2 * l.depth + 1
+decreases-after_value l = 3 * l.depth + 1
 
 abbrev pub invariant-after_elements-elements : goal.invariant-after_elements-elements
 invariant-after_elements-elements l =
