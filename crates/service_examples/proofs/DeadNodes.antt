@@ -1,23 +1,18 @@
 -- What removals of dead nodes leave of a service.
 use Rattle.std.proofs.Common.{◌≡◌, ◌∙◌, ℕ, Bool, true, false, List, [], ◌∷◌, ◌++◌, length, refl, sym, ap}
 use Rattle.std.specs.Prelude.{nat_lt, ◌||◌}
-use Rattle.std.specs.Fn.{Mut, Called}
-use Rattle.iox2_ids.specs.declared.identifiers.port_id.UniquePortId.{UniquePortId}
-use Rattle.iox2_container.specs.declared.container.release.ReleaseMode.TheVariants.{LockIfLastIndex}
-use Rattle.iox2_container.specs.declared.container.release.ReleaseState.{ReleaseState}
-use Rattle.iox2_container.specs.ContainerState.{ContainerState}
-use Rattle.iox2_container.specs.State.{Entry, RegistryState}
-use Rattle.iox2_container.specs.Steps.{candidates, is_of, lock_after, staying}
+use Rattle.iox2_dynamic.proofs.Names.{UniquePortId, LockIfLastIndex, ReleaseState, ContainerState, Entry, RegistryState, candidates, is_of, staying}
 use Rattle.iox2_dynamic.specs.declared.dynamic_config.answers.DeregisterNodeState.{DeregisterNodeState}
 use Rattle.iox2_dynamic.specs.declared.dynamic_config.cleanup.PortCleanupAction.{PortCleanupAction}
-use Rattle.iox2_dynamic.specs.declared.dynamic_config.cleanup.PortCleanupAction.TheVariants.{RemovePort}
 use Rattle.iox2_dynamic.specs.declared.dynamic_config.port_details.PortDetails.{PortDetails}
-use Rattle.iox2_dynamic.specs.Answers.{state_of}
 use Rattle.iox2_dynamic.specs.Recoveries.{CallsCleanup, RecoversPorts, RecoversNodes, removes}
 use Rattle.iox2_dynamic.specs.Details.{node_of, port_of}
 use Rattle.iox2_dynamic.specs.Ports.{has_ports_of}
 use Rattle.iox2_dynamic.specs.Service.{Service}
 use Rattle.iox2_dynamic.specs.Steps.{DeadStep, NodesAfter}
+use Rattle.iox2_container.specs.Steps.{lock_after}
+use Rattle.iox2_dynamic.specs.declared.dynamic_config.cleanup.PortCleanupAction.TheVariants.{RemovePort}
+use Rattle.iox2_dynamic.specs.Answers.{state_of}
 use Rattle.service_examples.specs.Removal.{OnlyOthersStay, others, last_went, ports_without, nodes_without}
 use Rattle.service_examples.proofs.Others.{all_go, all_stay, fewer, lock_is, lock_then, none_left, still_locked, others_then}
 
@@ -77,10 +72,11 @@ none_of dead old new e =
 
 -- one dead node is removed, and all its ports
 pub one_removed : {F : Type 0} (calls : F → UniquePortId → PortCleanupAction → F → Type 0)
+    (old : Service) (f : F) (dead : ℕ) (answer : DeregisterNodeState) (new : Service) (h : F)
+    → DeadStep calls old f dead answer new h
     → ((f : F) (x : UniquePortId) (r : PortCleanupAction) (h : F) → calls f x r h → r ≡ RemovePort)
-    → (old : Service) (f : F) (dead : ℕ) (answer : DeregisterNodeState) (new : Service) (h : F)
-    → DeadStep calls old f dead answer new h → OnlyOthersStay (dead ∷ []) old new
-one_removed calls agrees old f dead answer new h r =
+    → OnlyOthersStay (dead ∷ []) old new
+one_removed calls old f dead answer new h r agrees =
     let first = ports_go calls agrees dead old.ports.first f new.ports.first r.ports.0
     r.ports.1 in
     let second = ports_go calls agrees dead old.ports.second r.ports.0 new.ports.second
@@ -99,16 +95,6 @@ one_removed calls agrees old f dead answer new h r =
       first_ports = first;
       second_ports = second;
     }
-
--- the same, where the calls are those of a closure
-pub one_removed_by : {F : Type 0} (g : Mut F (UniquePortId × Unit {0}) PortCleanupAction)
-    (old : Service) (f : F) (dead : ℕ) (answer : DeregisterNodeState) (new : Service) (h : F)
-    → DeadStep (λ f x r h. Called g f (x, tt) r h) old f dead answer new h
-    → ((f : F) (x : UniquePortId) (r : PortCleanupAction) (h : F) → Called g f (x, tt) r h
-    → r ≡ RemovePort)
-    → OnlyOthersStay (dead ∷ []) old new
-one_removed_by g old f dead answer new h r agrees =
-    one_removed (λ f x r h. Called g f (x, tt) r h) agrees old f dead answer new h r
 
 -- no node is removed
 pub none_removed : (s : Service) → OnlyOthersStay [] s s

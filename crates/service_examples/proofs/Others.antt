@@ -7,10 +7,9 @@ use Rattle.std.proofs.lemmas.Bool.{eqb-true, eq-eqb, ne_eqb}
 use Rattle.std.proofs.lemmas.List.Filters.{length-filter_both}
 use Rattle.std.proofs.lemmas.List.Elements.{filter_agree}
 use Rattle.std.proofs.lemmas.List.Folds.{list_any-append}
-use Rattle.iox2_container.specs.declared.container.release.ReleaseMode.TheVariants.{LockIfLastIndex}
+use Rattle.iox2_dynamic.proofs.Names.{LockIfLastIndex, Entry, CalledInTurn, candidates, is_of, marks_of, staying}
 use Rattle.iox2_container.specs.Calls.{is_outside}
-use Rattle.iox2_container.specs.State.{Entry}
-use Rattle.iox2_container.specs.Steps.{CalledInTurn, candidates, is_of, lock_after, marks_of, staying}
+use Rattle.iox2_container.specs.Steps.{lock_after}
 use Rattle.iox2_container.proofs.Collecting.{answers_by}
 use Rattle.iox2_container.proofs.Leaving.{staying_by}
 use Rattle.service_examples.specs.Removal.{others, last_went}
