@@ -1,13 +1,11 @@
 -- What a search by halves finds among rising numbers.
 use Rattle.std.proofs.Common.{◌≡◌, ℕ, ◌==◌, ◌<◌, Bool, true, false, true≢false, IsTrue, List, Result, Ok, Err, length, get_or, sym, inl, inr, arith}
-use Rattle.std.specs.List.{IsAllAdjacentAnswer, list_any}
+use Rattle.service_descriptions.proofs.Names.{IsAllAdjacentAnswer, list_any, nat_tests, All-from_get_or}
 use Rattle.std.specs.List.Sorted.{IsBinarySearchResult, IsNonDecreasing}
 use Rattle.std.specs.Ordering.{is_le, is_some_and, nat_cmp}
 use Rattle.std.specs.Prelude.{Some}
 use Rattle.std.specs.Result.{is_ok}
 use Rattle.std.proofs.lemmas.Bool.{cases_lt}
-use Rattle.std.proofs.lemmas.Bool.Decides.{nat_tests}
-use Rattle.std.proofs.lemmas.List.Elements.{All-from_get_or}
 use Rattle.std.proofs.lemmas.List.Folds.{list_any_at, list_any_none}
 use Rattle.std.proofs.lemmas.List.Sorted.{non_decreasing_from_is_sorted, searched}
 

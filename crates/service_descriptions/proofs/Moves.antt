@@ -1,47 +1,20 @@
 -- Each command moves a service on: it keeps its number, and gives each ticket once.
-use Rattle.std.proofs.Common.{◌≡◌, ℕ, ◌<◌, ◌≤◌, Bool, true, false, Option, Some, None, Result, Ok, Err, List, inl, inr, refl, sym, ◌∙◌, ap, subst}
+use Rattle.std.proofs.Common.{◌≡◌, ℕ, ◌<◌, ◌≤◌, Bool, true, false, Option, Some, None, Result, Ok, Err, List, inl, inr, arith, refl, sym, ◌∙◌, ap, subst}
 use Rattle.std.specs.Prelude.{IfSome, MatchResult, ok_or}
 use Rattle.iox2_texts.specs.Verify.{Requirements}
-use Rattle.iox2_config.specs.declared.hash.input.PatternKind.{PatternKind}
+use Rattle.service_descriptions.proofs.Names.{PatternKind, ContainerAddFailure, Default, LockIfLastIndex, ReleaseState, Role, Removes, Handle, ContainerState, RegistryState, AddStep, is_of, DeregisterNodeState, PortDetails, node_of, has_ports_of, Side, of_side, other_side, First, Second, Service, IsService, first_role, second_role, AddsPort, RemovesPort, NodesAfter, Description, Cleanup, Command, Reply, CleanedUp, ServesDead, ServesVerify, ServesMessages, ServesLayout, ServesPlaces, ServesCompatible, named, tickets_of, ServesNodes, ServesList, ServesCount, ServesRegister, ServesDeregister, ServesAdd, ServesRelease, Serves, handle_in}
 use Rattle.iox2_config.specs.declared.hash.input.PatternKind.TheVariants as kind
 use Rattle.iox2_config.specs.declared.types.message_details.MessageTypeDetails.{MessageTypeDetails}
-use Rattle.iox2_container.specs.declared.container.refusal.ContainerAddFailure.{ContainerAddFailure}
 use Rattle.iox2_container.specs.declared.container.refusal.ContainerAddFailure.TheVariants as container
 use Rattle.iox2_container.specs.declared.container.refusal.ContainerRemoveError.{ContainerRemoveError}
 use Rattle.iox2_container.specs.declared.container.refusal.ContainerRemoveError.TheVariants as remove
-use Rattle.iox2_container.specs.declared.container.release.ReleaseMode.TheVariants.{Default, LockIfLastIndex}
-use Rattle.iox2_container.specs.declared.container.release.ReleaseState.{ReleaseState}
-use Rattle.iox2_container.specs.declared.container.role.Role.{Role}
 use Rattle.iox2_container.specs.declared.container.role.Role.TheVariants as role
-use Rattle.iox2_container.specs.Changes.{Removes}
-use Rattle.iox2_container.specs.Handle.{Handle}
-use Rattle.iox2_container.specs.ContainerState.{ContainerState}
-use Rattle.iox2_container.specs.State.{RegistryState}
-use Rattle.iox2_container.specs.Steps.{AddStep, is_of}
-use Rattle.iox2_dynamic.specs.declared.dynamic_config.answers.DeregisterNodeState.{DeregisterNodeState}
 use Rattle.iox2_dynamic.specs.declared.dynamic_config.answers.DeregisterNodeState.TheVariants as nodes
-use Rattle.iox2_dynamic.specs.declared.dynamic_config.port_details.PortDetails.{PortDetails}
 use Rattle.iox2_dynamic.specs.Answers.{state_of}
-use Rattle.iox2_dynamic.specs.Details.{node_of}
-use Rattle.iox2_dynamic.specs.Ports.{has_ports_of}
-use Rattle.iox2_dynamic.specs.PortsState.{Side, of_side, other_side}
-use Rattle.iox2_dynamic.specs.PortsState.Side.{First, Second}
-use Rattle.iox2_dynamic.specs.Service.{Service, IsService, first_role, second_role}
-use Rattle.iox2_dynamic.specs.Steps.{AddsPort, RemovesPort, NodesAfter}
-use Rattle.iox2_static.specs.Description.{Description}
-use Rattle.service_descriptions.specs.declared.replay.machine.command.Cleanup.{Cleanup}
-use Rattle.service_descriptions.specs.declared.replay.machine.command.Command.{Command}
 use Rattle.service_descriptions.specs.declared.replay.machine.command.Command.TheVariants as command
 use Rattle.service_descriptions.specs.declared.replay.machine.command.MessagePart.{MessagePart}
-use Rattle.service_descriptions.specs.declared.replay.machine.reply.Reply.{Reply}
 use Rattle.service_descriptions.specs.declared.replay.machine.reply.Reply.TheVariants as reply
-use Rattle.service_descriptions.specs.Cleanups.{CleanedUp, ServesDead}
-use Rattle.service_descriptions.specs.Descriptions.{ServesVerify, ServesMessages, ServesLayout, ServesPlaces, ServesCompatible}
-use Rattle.service_descriptions.specs.Handles.{named, tickets_of}
-use Rattle.service_descriptions.specs.Listings.{ServesNodes, ServesList, ServesCount}
-use Rattle.service_descriptions.specs.Steps.{ServesRegister, ServesDeregister, ServesAdd, ServesRelease, Serves, handle_in}
 use Rattle.iox2_container.proofs.Growing.{Grows, grows_same, grows_add, grows_remove, grows_recover}
-use Rattle.service_descriptions.proofs.Growing.{NewIn, new_add}
 
 -- a handle is the next one of its role
 pub record IsNext (old new : Service) (h : Handle) : Type 0 where
@@ -114,32 +87,31 @@ second_tickets : (s : Service) (k : PatternKind)
 second_tickets s kind.PublishSubscribe = refl
 second_tickets s _ = refl
 
--- the next handle of a registry is that of its role
-next_of : {T : Type 0} (old new : Service) (before after : RegistryState T) (role : Role)
+-- the handle of an add to a registry is the next one of its role
+next_of : {T : Type 0} (old new : Service) (before after : RegistryState T) (role : Role) (x : T)
     (h : Handle) → before.service ≡ old.nodes.registry.service → before.role ≡ role
-    → tickets_of old role ≡ before.used → tickets_of new role ≡ after.used → NewIn before after h
-    → IsNext old new h
-next_of old new before after role h number is used used' n =
-    let of_role : h.role ≡ role = n.role ∙ is in
+    → tickets_of old role ≡ before.used → tickets_of new role ≡ after.used
+    → AddStep before x (Ok h) after → IsNext old new h
+next_of old new before after role x h number is used used' s =
+    let ticket = ap (λ k. k.ticket) s.2.0 in
+    let of_role : h.role ≡ role = ap (λ k. k.role) s.2.0 ∙ is in
     record {
-      service = n.service ∙ number;
-      ticket = n.ticket ∙ sym (ap (tickets_of old) of_role ∙ used);
-      given = subst (λ k. h.ticket < k) (sym (ap (tickets_of new) of_role ∙ used')) n.used;
+      service = ap (λ k. k.service) s.2.0 ∙ number;
+      ticket = ticket ∙ sym (ap (tickets_of old) of_role ∙ used);
+      given = subst (λ k. h.ticket < k) (sym (ap (tickets_of new) of_role ∙ used'))
+          (omega (arith, ticket, ap (λ r. r.used) s.2.3));
     }
 
 registers : (old : Service) (id : ℕ) (r : Reply) (new : Service) → IsService old
     → ServesRegister old id r new → Moves old new (handle_in r)
 registers old id (reply.Handle h) new i s =
-    by_nodes old new (Some h) s.1
-    (grows_add old.nodes.registry id (Ok h) new.nodes.registry s.0.step)
-    (next_of old new old.nodes.registry new.nodes.registry role.Node h refl i.role_is refl refl
-    (new_add id h s.0.step))
+    by_nodes old new (Some h) s.1 (grows_add _ id (Ok h) _ s.0.step)
+    (next_of old new old.nodes.registry new.nodes.registry role.Node id h refl i.role_is refl refl
+    s.0.step)
 registers old id reply.Locked new i s =
-    by_nodes old new None s.1
-    (grows_add old.nodes.registry id (Err container.IsLocked) new.nodes.registry s.0.step) tt
+    by_nodes old new None s.1 (grows_add _ id (Err container.IsLocked) _ s.0.step) tt
 registers old id reply.Full new i s =
-    by_nodes old new None s.1
-    (grows_add old.nodes.registry id (Err container.OutOfSpace) new.nodes.registry s.0.step) tt
+    by_nodes old new None s.1 (grows_add _ id (Err container.OutOfSpace) _ s.0.step) tt
 registers old id _ new i s = absurd s
 
 -- a node leaves
@@ -147,9 +119,7 @@ leaves : (old : Service) (handle : Handle) (state : ReleaseState) (new : Service
     → Removes old.nodes handle LockIfLastIndex (Ok state) new.nodes
     → new ≡ record old { nodes = new.nodes } → Moves old new None
 leaves old handle state new gone e =
-    by_nodes old new None e
-    (grows_remove old.nodes.registry handle LockIfLastIndex (Ok state) new.nodes.registry
-    gone.step) tt
+    by_nodes old new None e (grows_remove _ handle LockIfLastIndex (Ok state) _ gone.step) tt
 
 deregisters : (old : Service) (handle : Option Handle) (r : Reply) (new : Service)
     → ServesDeregister old handle r new → Moves old new (handle_in r)
@@ -176,14 +146,14 @@ next_at : (side : Side) (old : Service) (details : PortDetails) (h : Handle) (ne
     (of_side side new.ports.first new.ports.second).registry → IsNext old new h
 next_at First old details h new i s =
     let ports = i.ports_are.first in
-    next_of old new old.ports.first.registry new.ports.first.registry (first_role old.pattern) h
-    ports.number_is ports.role_is (first_tickets old old.pattern) (first_tickets new old.pattern)
-    (new_add details h s)
+    next_of old new old.ports.first.registry new.ports.first.registry (first_role old.pattern)
+    details h ports.number_is ports.role_is (first_tickets old old.pattern)
+    (first_tickets new old.pattern) s
 next_at Second old details h new i s =
     let ports = i.ports_are.second in
-    next_of old new old.ports.second.registry new.ports.second.registry (second_role old.pattern) h
-    ports.number_is ports.role_is (second_tickets old old.pattern) (second_tickets new old.pattern)
-    (new_add details h s)
+    next_of old new old.ports.second.registry new.ports.second.registry (second_role old.pattern)
+    details h ports.number_is ports.role_is (second_tickets old old.pattern)
+    (second_tickets new old.pattern) s
 
 next_port : (old : Service) (details : PortDetails) (h : Handle) (new : Service) → IsService old
     → AddsPort old details (Ok h) new → IsNext old new h
@@ -232,10 +202,10 @@ cleans_up old dead cleanup answer new (left, step) =
     let second = step.ports.2 in
     moved old new None
     (nodes_grow dead (has_ports_of dead new.ports) old.nodes (state_of answer) new.nodes step.nodes)
-    (grows_recover (is_of node_of dead) first.1.step.marked old.ports.first.registry Default first.0
-    new.ports.first.registry first.1.step.recovers)
-    (grows_recover (is_of node_of dead) second.1.step.marked old.ports.second.registry Default
-    second.0 new.ports.second.registry second.1.step.recovers) tt
+    (grows_recover (is_of node_of dead) first.1.step.marked _ Default first.0 _
+    first.1.step.recovers)
+    (grows_recover (is_of node_of dead) second.1.step.marked _ Default second.0 _
+    second.1.step.recovers) tt
 
 removes_dead : (old : Service) (dead : ℕ) (cleanup : Cleanup) (r : Reply) (new : Service)
     → ServesDead old dead cleanup r new → Moves old new (handle_in r)
