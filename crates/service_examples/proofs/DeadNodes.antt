@@ -9,12 +9,13 @@ use Rattle.iox2_dynamic.specs.Recoveries.{CallsCleanup, RecoversPorts, RecoversN
 use Rattle.iox2_dynamic.specs.Details.{node_of, port_of}
 use Rattle.iox2_dynamic.specs.Ports.{has_ports_of}
 use Rattle.iox2_dynamic.specs.Service.{Service}
-use Rattle.iox2_dynamic.specs.Steps.{DeadStep, NodesAfter}
+use Rattle.iox2_dynamic.specs.Steps.{DeadStep}
 use Rattle.iox2_container.specs.Steps.{lock_after}
+use Rattle.iox2_container.proofs.Collecting.{passes_all}
 use Rattle.iox2_dynamic.specs.declared.dynamic_config.cleanup.PortCleanupAction.TheVariants.{RemovePort}
 use Rattle.iox2_dynamic.specs.Answers.{state_of}
 use Rattle.service_examples.specs.Removal.{OnlyOthersStay, others, last_went, ports_without, nodes_without}
-use Rattle.service_examples.proofs.Others.{all_go, all_stay, fewer, lock_is, lock_then, none_left, still_locked, others_then}
+use Rattle.service_examples.proofs.Others.{all_go, fewer, lock_is, lock_then, none_left, still_locked, others_then}
 
 -- all ports of the node go where each answer is that they do
 ports_go : {F : Type 0} (calls : F → UniquePortId → PortCleanupAction → F → Type 0)
@@ -58,12 +59,6 @@ nodes_go dead old state new r =
       locked = old.registry.locked || last_went before stay;
     }) go))
 
-nodes_after : (dead : ℕ) (b : Bool) (old : ContainerState ℕ) (state : ReleaseState)
-    (new : ContainerState ℕ) → b ≡ false → NodesAfter dead b old state new
-    → RecoversNodes dead old state new
-nodes_after dead true old state new e n = (let bad : true ≡ false = e in cc)
-nodes_after dead false old state new e n = n
-
 none_of : (dead : ℕ) (old new : RegistryState PortDetails) → new ≡ ports_without (dead ∷ []) old
     → length (candidates (is_of node_of dead) new.entries) ≡ 0
 none_of dead old new e =
@@ -89,9 +84,7 @@ one_removed calls old f dead answer new h r agrees =
     ∙ ap (λ n. nat_lt 0 0 || nat_lt 0 n) b in
     record {
       pattern = ap (λ (s : Service). s.pattern) r.others;
-      nodes = nodes_go dead old.nodes (state_of answer) new.nodes
-          (nodes_after dead (has_ports_of dead new.ports) old.nodes
-          (state_of answer) new.nodes none r.nodes);
+      nodes = nodes_go dead old.nodes (state_of answer) new.nodes (rw none at r.nodes);
       first_ports = first;
       second_ports = second;
     }
@@ -101,7 +94,7 @@ pub none_removed : (s : Service) → OnlyOthersStay [] s s
 none_removed s =
     let ports : (r : RegistryState PortDetails) → r ≡ ports_without [] r =
     λ r. ap (λ (es : List (Entry PortDetails)). record r { entries = es })
-    (sym (all_stay node_of r.entries)) in
+    (sym (passes_all r.entries)) in
     let node : ℕ → ℕ = λ id. id in
     let n : RegistryState ℕ = s.nodes.registry in
     record {
@@ -109,7 +102,7 @@ none_removed s =
       nodes = ap (λ (l : Bool). record n { locked = l }) (sym (still_locked n.locked n.entries))
           ∙ ap (λ (es : List (Entry ℕ)).
           record n { entries = es; locked = n.locked || last_went n.entries es })
-          (sym (all_stay node n.entries));
+          (sym (passes_all n.entries));
       first_ports = ports s.ports.first.registry;
       second_ports = ports s.ports.second.registry;
     }

@@ -70,11 +70,6 @@ none_left {T} node d (e ∷ es) =
           ∙ none_left node d es
     ]) refl)
 
--- nobody is dead
-pub all_stay : {T : Type 0} (node : T → ℕ) (es : List (Entry T)) → others node [] es ≡ es
-all_stay node [] = refl
-all_stay {T} node (e ∷ es) = ap (λ (l : List (Entry T)). e ∷ l) (all_stay node es)
-
 -- first some dead nodes are removed, and then others
 pub others_then : {T : Type 0} (node : T → ℕ) (ds ms : List ℕ) (es : List (Entry T))
     → others node ms (others node ds es) ≡ others node (ds ++ ms) es
