@@ -16,27 +16,18 @@ pub rising_from_adjacent : (xs : List ℕ) (r : Bool)
 rising_from_adjacent xs true adjacent h = non_decreasing_from_is_sorted xs true adjacent
 rising_from_adjacent xs false adjacent h = absurd (true≢false (sym h))
 
-equal_is : (n x : ℕ) → n ≡ x → (n == x) ≡ true
-equal_is n x e = grind (arith, nat_tests)
-
-less_is : (n x : ℕ) → n < x → (n == x) ≡ false
-less_is n x lt = grind (arith, nat_tests)
-
-greater_is : (n x : ℕ) → x < n → (n == x) ≡ false
-greater_is n x lt = grind (arith, nat_tests)
-
 -- a search by halves among rising numbers finds a number exactly where it is one of them
 pub found_is : (xs : List ℕ) (x : ℕ) (r : Result ℕ ℕ)
     → IsBinarySearchResult (λ y. nat_cmp y x) xs r → IsNonDecreasing xs
     → is_ok r ≡ list_any (λ k. k == x) xs
 found_is xs x (Ok at) found rising =
     let there = searched xs x (Ok at) found (λ i j le lt. rising i j 0 le lt) in
-    sym (list_any_at (λ k. k == x) xs at 0 there.0 (equal_is _ x there.1))
+    sym (list_any_at (λ k. k == x) xs at 0 there.0 (grind (arith, nat_tests, there.1)))
 found_is xs x (Err at) found rising =
     let parts = searched xs x (Err at) found (λ i j le lt. rising i j 0 le lt) in
     let other : (i : ℕ) → i < length xs → (get_or xs i 0 == x) ≡ false = λ i below.
     elim (cases_lt i at) [
-      | inl lt ↦ less_is _ x (parts.1 i lt)
-      | inr le ↦ greater_is _ x (parts.2 i le below)
+      | inl lt ↦ grind (arith, nat_tests, parts.1 i lt)
+      | inr le ↦ grind (arith, nat_tests, parts.2 i le below)
     ] in
     sym (list_any_none (λ k. k == x) xs (All-from_get_or (λ k. (k == x) ≡ false) xs 0 other))

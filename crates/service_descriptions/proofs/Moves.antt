@@ -2,15 +2,17 @@
 use Rattle.std.proofs.Common.{◌≡◌, ℕ, ◌<◌, ◌≤◌, Bool, true, false, Option, Some, None, Result, Ok, Err, List, inl, inr, arith, refl, sym, ◌∙◌, ap, subst}
 use Rattle.std.specs.Prelude.{IfSome, MatchResult, ok_or}
 use Rattle.iox2_texts.specs.Verify.{Requirements}
-use Rattle.service_descriptions.proofs.Names.{PatternKind, ContainerAddFailure, Default, LockIfLastIndex, ReleaseState, Role, Removes, Handle, ContainerState, RegistryState, AddStep, is_of, DeregisterNodeState, PortDetails, node_of, has_ports_of, Side, of_side, other_side, First, Second, Service, IsService, first_role, second_role, AddsPort, RemovesPort, NodesAfter, Description, Cleanup, Command, Reply, CleanedUp, ServesDead, ServesVerify, ServesMessages, ServesLayout, ServesPlaces, ServesCompatible, named, tickets_of, ServesNodes, ServesList, ServesCount, ServesRegister, ServesDeregister, ServesAdd, ServesRelease, Serves, handle_in}
+use Rattle.service_descriptions.proofs.Names.{PatternKind, ContainerAddFailure, Default, LockIfLastIndex, ReleaseState, Role, Removes, Handle, ContainerState, RegistryState, AddStep, is_of, DeregisterNodeState, PortDetails, node_of, has_ports_of, Side, of_side, other_side, First, Second, Service, IsService, AddsPort, RemovesPort, NodesAfter, Description, Cleanup, Command, Reply, CleanedUp, ServesDead, ServesVerify, ServesMessages, ServesLayout, ServesPlaces, ServesCompatible, named, tickets_of, ServesNodes, ServesList, ServesCount, ServesRegister, ServesDeregister, ServesAdd, ServesRelease, Serves, handle_in}
 use Rattle.iox2_config.specs.declared.hash.input.PatternKind.TheVariants as kind
 use Rattle.iox2_config.specs.declared.types.message_details.MessageTypeDetails.{MessageTypeDetails}
 use Rattle.iox2_container.specs.declared.container.refusal.ContainerAddFailure.TheVariants as container
 use Rattle.iox2_container.specs.declared.container.refusal.ContainerRemoveError.{ContainerRemoveError}
 use Rattle.iox2_container.specs.declared.container.refusal.ContainerRemoveError.TheVariants as remove
+use Rattle.iox2_container.specs.declared.container.release.ReleaseState.TheVariants.{Locked, Unlocked}
 use Rattle.iox2_container.specs.declared.container.role.Role.TheVariants as role
 use Rattle.iox2_dynamic.specs.declared.dynamic_config.answers.DeregisterNodeState.TheVariants as nodes
 use Rattle.iox2_dynamic.specs.Answers.{state_of}
+use Rattle.iox2_dynamic.specs.Service.{IsPortRegistry, role_at}
 use Rattle.service_descriptions.specs.declared.replay.machine.command.Command.TheVariants as command
 use Rattle.service_descriptions.specs.declared.replay.machine.command.MessagePart.{MessagePart}
 use Rattle.service_descriptions.specs.declared.replay.machine.reply.Reply.TheVariants as reply
@@ -77,15 +79,12 @@ by_side Second old new given e g others next =
     moved old new given (grows_same _ _ e)
     (grows_same _ _ (ap (λ c. c.registry) others)) g next
 
-first_tickets : (s : Service) (k : PatternKind)
-    → tickets_of s (first_role k) ≡ s.ports.first.registry.used
-first_tickets s kind.PublishSubscribe = refl
-first_tickets s _ = refl
-
-second_tickets : (s : Service) (k : PatternKind)
-    → tickets_of s (second_role k) ≡ s.ports.second.registry.used
-second_tickets s kind.PublishSubscribe = refl
-second_tickets s _ = refl
+side_tickets : (side : Side) (s : Service) (k : PatternKind)
+    → tickets_of s (role_at k side) ≡ (of_side side s.ports.first s.ports.second).registry.used
+side_tickets First s kind.PublishSubscribe = refl
+side_tickets First s _ = refl
+side_tickets Second s kind.PublishSubscribe = refl
+side_tickets Second s _ = refl
 
 -- the handle of an add to a registry is the next one of its role
 next_of : {T : Type 0} (old new : Service) (before after : RegistryState T) (role : Role) (x : T)
@@ -114,20 +113,13 @@ registers old id reply.Full new i s =
     by_nodes old new None s.1 (grows_add _ id (Err container.OutOfSpace) _ s.0.step) tt
 registers old id _ new i s = absurd s
 
--- a node leaves
-leaves : (old : Service) (handle : Handle) (state : ReleaseState) (new : Service)
-    → Removes old.nodes handle LockIfLastIndex (Ok state) new.nodes
-    → new ≡ record old { nodes = new.nodes } → Moves old new None
-leaves old handle state new gone e =
-    by_nodes old new None e (grows_remove _ handle LockIfLastIndex (Ok state) _ gone.step) tt
-
 deregisters : (old : Service) (handle : Option Handle) (r : Reply) (new : Service)
     → ServesDeregister old handle r new → Moves old new (handle_in r)
 deregisters old None reply.NoHandle new s = still old new s
 deregisters old (Some h) reply.HasOwners new s =
-    leaves old h (state_of nodes.HasOwners) new s.3 s.4
+    by_nodes old new None s.4 (grows_remove _ h LockIfLastIndex (Ok Unlocked) _ s.3.step) tt
 deregisters old (Some h) reply.NoMoreOwners new s =
-    leaves old h (state_of nodes.NoMoreOwners) new s.3 s.4
+    by_nodes old new None s.4 (grows_remove _ h LockIfLastIndex (Ok Locked) _ s.3.step) tt
 deregisters old (Some h) reply.PortsAttached new s = still old new s.3
 deregisters old (Some h) reply.NotOwned new s = still old new s.1
 deregisters old _ _ new s = absurd s
@@ -140,24 +132,18 @@ adds_port old details answer new given (a, e) next =
     by_side a.side old new given (ap (λ s. s.nodes.registry) e)
     (grows_add _ details answer _ a.step.step) a.others next
 
-next_at : (side : Side) (old : Service) (details : PortDetails) (h : Handle) (new : Service)
-    → IsService old
-    → AddStep (of_side side old.ports.first old.ports.second).registry details (Ok h)
-    (of_side side new.ports.first new.ports.second).registry → IsNext old new h
-next_at First old details h new i s =
-    let ports = i.ports_are.first in
-    next_of old new old.ports.first.registry new.ports.first.registry (first_role old.pattern)
-    details h ports.number_is ports.role_is (first_tickets old old.pattern)
-    (first_tickets new old.pattern) s
-next_at Second old details h new i s =
-    let ports = i.ports_are.second in
-    next_of old new old.ports.second.registry new.ports.second.registry (second_role old.pattern)
-    details h ports.number_is ports.role_is (second_tickets old old.pattern)
-    (second_tickets new old.pattern) s
+ports_at : (side : Side) (s : Service) → IsService s
+    → IsPortRegistry s.nodes.registry (role_at s.pattern side)
+    (of_side side s.ports.first s.ports.second).registry
+ports_at First s i = i.ports_are.first
+ports_at Second s i = i.ports_are.second
 
 next_port : (old : Service) (details : PortDetails) (h : Handle) (new : Service) → IsService old
     → AddsPort old details (Ok h) new → IsNext old new h
-next_port old details h new i s = next_at s.0.side old details h new i s.0.step.step
+next_port old details h new i (a, e) =
+    let ports = ports_at a.side old i in
+    next_of old new _ _ (role_at old.pattern a.side) details h ports.number_is ports.role_is
+    (side_tickets a.side old old.pattern) (side_tickets a.side new old.pattern) a.step.step
 
 attaches : (old : Service) (details : PortDetails) (r : Reply) (new : Service) → IsService old
     → ServesAdd old details r new → Moves old new (handle_in r)
