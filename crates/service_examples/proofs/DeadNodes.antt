@@ -37,27 +37,17 @@ nodes_go : (dead : ℕ) (old : ContainerState ℕ) (state : ReleaseState) (new :
     → RecoversNodes dead old state new → new.registry ≡ nodes_without (dead ∷ []) old.registry
 nodes_go dead old state new r =
     let node : ℕ → ℕ = λ id. id in
-    let called : Unit {0} → ℕ → Bool → Unit {0} → Type 0 = λ _ _ goes _. goes ≡ true in
-    let before : List (Entry ℕ) = old.registry.entries in
-    let stay : List (Entry ℕ) = others node (dead ∷ []) before in
-    let left : List (Entry ℕ) = staying (is_of node dead) r.step.marked before in
-    let go : left ≡ stay =
-    all_go called (λ f x r h a. a) node dead r.step.marked before tt tt r.step.called in
-    let entries : new.registry.entries ≡ stay =
-    ap (λ (n : RegistryState ℕ). n.entries) r.step.recovers.0 ∙ go in
-    r.step.recovers.0
-    ∙ (ap (λ (es : List (Entry ℕ)).
-    record old.registry {
-      entries = left;
-      locked = lock_after LockIfLastIndex (length before) (length es) old.registry.locked;
-    }) entries
-    ∙ (ap (λ (l : Bool). record old.registry { entries = left; locked = l })
-    (lock_is before stay old.registry.locked)
-    ∙ ap (λ (es : List (Entry ℕ)).
-    record old.registry {
-      entries = es;
-      locked = old.registry.locked || last_went before stay;
-    }) go))
+    let before = old.registry.entries in
+    let locked = old.registry.locked in
+    let is = r.step.recovers.0 in
+    let go =
+    all_go {F = Unit {0}} (λ _ _ goes _. goes ≡ true) (λ f x r h a. a) node dead r.step.marked
+    before tt tt r.step.called in
+    let lock =
+    ap (λ (es : List (Entry ℕ)). lock_after LockIfLastIndex (length before) (length es) locked)
+    (ap (λ (n : RegistryState ℕ). n.entries) is ∙ go)
+    ∙ lock_is before (others node (dead ∷ []) before) locked in
+    is ∙ (λ i. record old.registry { entries = go i; locked = lock i })
 
 none_of : (dead : ℕ) (old new : RegistryState PortDetails) → new ≡ ports_without (dead ∷ []) old
     → length (candidates (is_of node_of dead) new.entries) ≡ 0
