@@ -11,7 +11,7 @@ ghost use Rattle.service_descriptions.specs.Phrases.{id_phrase, node_id_phrase, 
 
 use crate::replay::machine::{Command, LineCommand, Parts, ScriptPort};
 use iox2_container::container::Role;
-use iox2_ids::identifiers::UniqueNodeId;
+use iox2_ids::identifiers::{UniqueNodeId, UniqueReaderId};
 use line_streams::{After, LineEnd, Number, Phrase, Then, after_word, list_before};
 use std::alloc::{AllocError, Global};
 
@@ -68,7 +68,8 @@ impl<'a> Phrase<'a> for IdNumber {
     #[inline(always)]
     fn read(&self, bytes: &'a [u8]) -> Option<(u128, &'a [u8])> {
         let (parts, rest) = Id.read(bytes)?;
-        Some((parts.value(), rest))
+        let id: UniqueReaderId = parts.id();
+        Some((id.value(), rest))
     }
 
     ghost one_way = { λ s. id_one };
