@@ -2,7 +2,8 @@
 use Rattle.std.proofs.Common.{◌≡◌, ◌≢◌, ◌∙◌, ℕ, zero, suc, ◌<◌, ◌⊎◌, Bool, true, false, List, [], ◌∷◌, Result, Ok, Err, inl, inr, refl, sym, ap, subst, arith, get_or}
 use Rattle.std.specs.Prelude.{All, IsTrue, ◌==◌, nat_eq, nat_lt, ◌&&◌, ◌||◌}
 use Rattle.std.proofs.lemmas.List.Elements.{All-head, All-weaker}
-use Rattle.std.proofs.lemmas.Bool.{eq-eqb, lt-ltb, ne_eqb, cases_order}
+use Rattle.std.proofs.lemmas.Bool.{eq-eqb, ne_eqb, cases_order}
+use Rattle.std.proofs.lemmas.Bool.Decides.{nat_tests}
 use Rattle.iox2_dynamic.proofs.Names.{ContainerAddFailure, IsLocked, OutOfSpace, LockIfLastIndex, Role, Handle, Adds, ContainerState, Entry, RegistryState, IsRegistry, AddStep, InsertsOne, Leaves, HasEntry, is_of, PortDetails, node_of, Service, IsService, IsPortRegistry, HasNoPort, Registered, entries_of_node, first_role, second_role, has_ports_of, is_last_of_ports}
 use Rattle.iox2_container.proofs.Counting.{counted, counted-InsertsOne, one_if, All-other}
 use Rattle.iox2_container.proofs.Growing.{grows_add}
@@ -100,16 +101,11 @@ still old new x g ports last h k d l =
     ]
 
 pub both_none : (a b : ℕ) → (nat_lt 0 a || nat_lt 0 b) ≡ false → (a ≡ 0) × (b ≡ 0)
-both_none zero zero h = (refl, refl)
-both_none zero (suc b) h = absurd (not_false (sym (lt-ltb 0 (suc b) (omega arith)) ∙ h))
-both_none (suc a) b h =
-    absurd (not_false (sym (ap (λ k. k || nat_lt 0 b) (lt-ltb 0 (suc a) (omega arith))) ∙ h))
+both_none a b h = (grind (arith, nat_tests, h), grind (arith, nat_tests, h))
 
 none_of : (n a b : ℕ) → (nat_eq n 1 && (nat_lt 0 a || nat_lt 0 b)) ≡ false → n ≡ 1 → (a ≡ 0)
     × (b ≡ 0)
-none_of n a b h e =
-    let h' : (nat_lt 0 a || nat_lt 0 b) ≡ false =
-    sym (ap (λ k. k && (nat_lt 0 a || nat_lt 0 b)) (eq-eqb n 1 e)) ∙ h in both_none a b h'
+none_of n a b h e = both_none a b (grind (arith, nat_tests, h, e))
 
 pub leaving_kept : (s : Service) (nodes : ContainerState ℕ) (handle : Handle) (id : ℕ)
     → HasEntry s.nodes.registry handle id → is_last_of_ports id s ≡ false
