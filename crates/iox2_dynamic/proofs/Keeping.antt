@@ -67,10 +67,6 @@ register_kept s nodes d answer a i =
     with_nodes s nodes a.kept g.service g.role (stay _ i.ports_are.first.registered)
     (stay _ i.ports_are.second.registered) i
 
-apart : (a b : ℕ) → (a < b) ⊎ (b < a) → a ≢ b
-apart a b (inl l) = λ e. omega arith
-apart a b (inr l) = λ e. omega arith
-
 -- where the last entry of a node goes only if no port has it, the nodes of these ports stay
 still : (old new : List (Entry ℕ)) (x : Entry ℕ) → InsertsOne new old x
     → (ports : List (Entry PortDetails))
@@ -81,23 +77,14 @@ still old new x g ports last h k d l =
     let id = node_of (get_or ports k d).details in
     let was : 0 < counted (is_of (λ i. i) id) old = h k d l in
     let n = counted-InsertsOne (is_of (λ i. i) id) new old x g in
+    let other : counted (is_of (λ i. i) x.details) old ≡ 1 → (id == x.details) ≡ false =
+    λ one. All-other (is_of node_of x.details) ports (last one) k d l in
     elim (cases_order x.details id) as (λ _. 0 < counted (is_of (λ i. i) id) new) [
       | inl v ↦
           let same : counted (is_of (λ i. i) x.details) old ≡ counted (is_of (λ i. i) id) old =
           ap (λ (k : ℕ). counted (λ (i : ℕ). i == k) old) v in
-          let hit : one_if (is_of (λ i. i) id x.details) ≡ 1 = ap one_if (eq-eqb x.details id v) in
-          elim (cases_order (counted (is_of (λ i. i) x.details) old) 1) as
-          (λ _. 0 < counted (is_of (λ i. i) id) new) [
-            | inl one ↦ absurd
-                (not_false
-                (sym (eq-eqb id x.details (sym v))
-                ∙ All-other (is_of node_of x.details) ports (last one) k d l))
-            | inr more ↦ omega (arith, more)
-          ]
-      | inr v ↦
-          let miss : one_if (is_of (λ i. i) id x.details) ≡ 0 =
-          ap one_if (ne_eqb x.details id (apart x.details id v)) in
-          omega arith
+          grind (arith, nat_tests, was, n, other, v, same)
+      | inr v ↦ grind (arith, nat_tests, was, n, v)
     ]
 
 pub both_none : (a b : ℕ) → (nat_lt 0 a || nat_lt 0 b) ≡ false → (a ≡ 0) × (b ≡ 0)
