@@ -2,7 +2,7 @@
 use Rattle.std.proofs.Common.{◌≡◌, ◌∙◌, ℕ, ◌<◌, Bool, true, false, List, refl, sym, ap, subst, arith, get_or}
 use Rattle.std.specs.Prelude.{All, ◌==◌, not}
 use Rattle.std.proofs.lemmas.List.Elements.{All-filter}
-use Rattle.std.proofs.lemmas.Bool.{eqb-true, eq-eqb, ne_eqb}
+use Rattle.std.proofs.lemmas.Bool.Decides.{nat_tests}
 use Rattle.iox2_dynamic.proofs.Names.{PatternKind, UniquePortId, ReleaseState, Role, ContainerState, Entry, RegistryState, is_leaving, is_of, release_state, staying, DeregisterNodeState, PortCleanupAction, PortDetails, RecoversPorts, RecoversNodes, node_of, Ports, RecoversBoth, has_ports_of, Service, IsService, IsPortRegistry, ArePorts, Registered, first_role, second_role, NodesAfter}
 use Rattle.iox2_container.proofs.Counting.{counted, counted-staying, All-other}
 use Rattle.iox2_dynamic.specs.declared.dynamic_config.answers.DeregisterNodeState.TheVariants.{HasOwners}
@@ -40,9 +40,7 @@ module _ {F : Type 0} (calls : F → UniquePortId → PortCleanupAction → F �
 
 others : (dead other : ℕ) → (other == dead) ≡ false → (d : ℕ) → (d == dead) ≡ true
     → (d == other) ≡ false
-others dead other n d e =
-    ap (λ k. k == other) (eqb-true d dead e)
-    ∙ ne_eqb dead other (λ k. not_false (sym (eq-eqb other dead (sym k)) ∙ n))
+others dead other n d e = grind (arith, nat_tests, n, e)
 
 still_there : (dead : ℕ) (nodes : List (Entry ℕ)) (marked : ℕ → Bool)
     (ports : List (Entry PortDetails)) → All (λ e. is_of node_of dead e.details ≡ false) ports

@@ -2,7 +2,8 @@
 use Rattle.std.proofs.Common.{◌≡◌, ◌≢◌, ◌∙◌, ℕ, zero, suc, ◌<◌, ◌⊎◌, Bool, true, false, List, [], ◌∷◌, Result, Ok, Err, inl, inr, refl, sym, ap, subst, arith, get_or}
 use Rattle.std.specs.Prelude.{All, IsTrue, ◌==◌, nat_eq, nat_lt, ◌&&◌, ◌||◌}
 use Rattle.std.proofs.lemmas.List.Elements.{All-head, All-weaker}
-use Rattle.std.proofs.lemmas.Bool.{eq-eqb, lt-ltb, ne_eqb, cases_order}
+use Rattle.std.proofs.lemmas.Bool.{eq-eqb, ne_eqb, cases_order}
+use Rattle.std.proofs.lemmas.Bool.Decides.{nat_tests}
 use Rattle.iox2_dynamic.proofs.Names.{ContainerAddFailure, IsLocked, OutOfSpace, LockIfLastIndex, Role, Handle, Adds, ContainerState, Entry, RegistryState, IsRegistry, AddStep, InsertsOne, Leaves, HasEntry, is_of, PortDetails, node_of, Service, IsService, IsPortRegistry, HasNoPort, Registered, entries_of_node, first_role, second_role, has_ports_of, is_last_of_ports}
 use Rattle.iox2_container.proofs.Counting.{counted, counted-InsertsOne, one_if, All-other}
 use Rattle.iox2_container.proofs.Growing.{grows_add}
@@ -66,10 +67,6 @@ register_kept s nodes d answer a i =
     with_nodes s nodes a.kept g.service g.role (stay _ i.ports_are.first.registered)
     (stay _ i.ports_are.second.registered) i
 
-apart : (a b : ℕ) → (a < b) ⊎ (b < a) → a ≢ b
-apart a b (inl l) = λ e. omega arith
-apart a b (inr l) = λ e. omega arith
-
 -- where the last entry of a node goes only if no port has it, the nodes of these ports stay
 still : (old new : List (Entry ℕ)) (x : Entry ℕ) → InsertsOne new old x
     → (ports : List (Entry PortDetails))
@@ -80,36 +77,22 @@ still old new x g ports last h k d l =
     let id = node_of (get_or ports k d).details in
     let was : 0 < counted (is_of (λ i. i) id) old = h k d l in
     let n = counted-InsertsOne (is_of (λ i. i) id) new old x g in
+    let other : counted (is_of (λ i. i) x.details) old ≡ 1 → (id == x.details) ≡ false =
+    λ one. All-other (is_of node_of x.details) ports (last one) k d l in
     elim (cases_order x.details id) as (λ _. 0 < counted (is_of (λ i. i) id) new) [
       | inl v ↦
           let same : counted (is_of (λ i. i) x.details) old ≡ counted (is_of (λ i. i) id) old =
           ap (λ (k : ℕ). counted (λ (i : ℕ). i == k) old) v in
-          let hit : one_if (is_of (λ i. i) id x.details) ≡ 1 = ap one_if (eq-eqb x.details id v) in
-          elim (cases_order (counted (is_of (λ i. i) x.details) old) 1) as
-          (λ _. 0 < counted (is_of (λ i. i) id) new) [
-            | inl one ↦ absurd
-                (not_false
-                (sym (eq-eqb id x.details (sym v))
-                ∙ All-other (is_of node_of x.details) ports (last one) k d l))
-            | inr more ↦ omega (arith, more)
-          ]
-      | inr v ↦
-          let miss : one_if (is_of (λ i. i) id x.details) ≡ 0 =
-          ap one_if (ne_eqb x.details id (apart x.details id v)) in
-          omega arith
+          grind (arith, nat_tests, was, n, other, v, same)
+      | inr v ↦ grind (arith, nat_tests, was, n, v)
     ]
 
 pub both_none : (a b : ℕ) → (nat_lt 0 a || nat_lt 0 b) ≡ false → (a ≡ 0) × (b ≡ 0)
-both_none zero zero h = (refl, refl)
-both_none zero (suc b) h = absurd (not_false (sym (lt-ltb 0 (suc b) (omega arith)) ∙ h))
-both_none (suc a) b h =
-    absurd (not_false (sym (ap (λ k. k || nat_lt 0 b) (lt-ltb 0 (suc a) (omega arith))) ∙ h))
+both_none a b h = (grind (arith, nat_tests, h), grind (arith, nat_tests, h))
 
 none_of : (n a b : ℕ) → (nat_eq n 1 && (nat_lt 0 a || nat_lt 0 b)) ≡ false → n ≡ 1 → (a ≡ 0)
     × (b ≡ 0)
-none_of n a b h e =
-    let h' : (nat_lt 0 a || nat_lt 0 b) ≡ false =
-    sym (ap (λ k. k && (nat_lt 0 a || nat_lt 0 b)) (eq-eqb n 1 e)) ∙ h in both_none a b h'
+none_of n a b h e = both_none a b (grind (arith, nat_tests, h, e))
 
 pub leaving_kept : (s : Service) (nodes : ContainerState ℕ) (handle : Handle) (id : ℕ)
     → HasEntry s.nodes.registry handle id → is_last_of_ports id s ≡ false

@@ -1,7 +1,6 @@
 pub mod Names
 pub mod Callbacks
 pub mod Recoveries
-pub mod Counts
 pub mod Keeping
 pub mod Moving
 pub mod Attaching

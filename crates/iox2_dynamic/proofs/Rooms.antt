@@ -21,13 +21,8 @@ added_where : {T : Type 0} (old : RegistryState T) (details : T)
 added_where old details (Ok handle) new s = (λ _. (s.0, s.1), λ _. refl)
 added_where old details (Err IsLocked) new s =
     (λ e. absurd (true≢false (sym e)), λ t. absurd (true≢false (sym s.0 ∙ t.0)))
-added_where old details (Err OutOfSpace) new s = (
-  λ e. absurd (true≢false (sym e)),
-  λ t. elim s.1 [
-    | inl full ↦ absurd (omega (arith, full, t.1.0))
-    | inr spent ↦ absurd (omega (arith, spent, t.1.1))
-  ],
-)
+added_where old details (Err OutOfSpace) new s =
+    (λ e. absurd (true≢false (sym e)), λ t. grind (arith, s.1, t))
 
 pub registered_where : (old : Service) (id : ℕ) (answer : Result Handle RegisterNodeResult)
     (new : Service) → RegisterStep old id answer new

@@ -6,7 +6,7 @@ use Rattle.std.proofs.lemmas.Fmt.{digits_value-decimal, decimal_digit, decimal_n
 use Rattle.std.proofs.lemmas.Str.Parse.{digit_from_value, digits_value-take-le}
 use Rattle.std.proofs.lemmas.Str.{digit_value_digit}
 use Rattle.std.proofs.lemmas.Int.Digits.{digits_more, digits_value_more}
-use Rattle.std.proofs.lemmas.List.{drop-drop, length-append, length-take-le, take-append-drop, get_or-take, length-drop, get_or-drop, get_or_past}
+use Rattle.std.proofs.lemmas.List.{drop-drop, length-append, length-take-le, take-append-drop, take-append-le, get_or-take, length-drop, get_or-drop, get_or_past}
 use Rattle.std.proofs.Math.Seq.{take-length}
 use Rattle.line_streams.specs.Spelling.{EndsNumber, IsDigit}
 use Rattle.line_streams.specs.Numerals.{own, decimal_first, decimal_no_zero}
@@ -20,12 +20,6 @@ covers [] (r ∷ rest) (suc k) u d le = absurd (u (digit_from_value r d.0))
 covers (b ∷ bs) rest (suc k) u d le = let shorter = covers bs rest k u d.1 (omega arith) in
     omega arith
 
-take_front : (a rest : List ℕ) (k : ℕ) → k ≤ length a → take k (a ++ rest) ≡ take k a
-take_front a rest zero le = refl
-take_front [] rest (suc k) le = absurd (omega arith)
-take_front (b ∷ bs) rest (suc k) le =
-    ap (λ (xs : List ℕ). b ∷ xs) (take_front bs rest k (omega arith))
-
 -- and write no larger number
 pub front_value : (n : ℕ) (rest bytes : List ℕ) (k : ℕ) → n < 2 ^ 64 → EndsNumber rest
     → bytes ≡ decimal n ++ rest → AllDigits 10 (take k bytes) → k ≤ length bytes
@@ -33,7 +27,7 @@ pub front_value : (n : ℕ) (rest bytes : List ℕ) (k : ℕ) → n < 2 ^ 64 →
 front_value n rest bytes k h u e d le =
     let short = covers (decimal n) rest k u (rw e at d) (rw e at le) in
     let value = digits_value-take-le 10 (decimal n) k (omega arith) in
-    rw (e, take_front (decimal n) rest k short) (rw (digits_value-decimal own n h) at value)
+    rw (e, take-append-le k (decimal n) rest short) (rw (digits_value-decimal own n h) at value)
 
 spare : (ds rest : List ℕ) → 0 < length ds → (get_or ds 0 0 ≡ 48 → length ds ≡ 1) → EndsNumber rest
     → get_or (ds ++ rest) 0 0 ≡ 48 → IsDigit (get_or (ds ++ rest) 1 0) → ⊥

@@ -2,21 +2,14 @@
 use Rattle.std.proofs.Common.{◌≡◌, ◌≢◌, ◌==◌, ℕ, ◌+◌, ◌-◌, ◌<◌, ◌≤◌, Bool, true, false, cond, List, [], ◌∷◌, ◌++◌, length, get_or, take, drop, Option, Some, None, arith, add-one, drop-cons, refl, sym, ◌∙◌, ap}
 use Rattle.std.specs.List.{position, position_or_len, before_first}
 use Rattle.memchr.specs.Find.{IsFirstByte, is_byte}
-use Rattle.std.proofs.lemmas.Bool.{eqb-false, eqb-true, false_from_ne_true, ltb-false}
+use Rattle.std.proofs.lemmas.Bool.{eqb-false, eqb-true, false_from_ne_true}
+use Rattle.std.proofs.lemmas.Bool.Decides.{nat_tests}
 use Rattle.std.proofs.lemmas.List.{length-take-le, take-append-drop, get_or-take, take_all}
 use Rattle.std.proofs.lemmas.List.Elements.{All-from_get_or, All-head, All-tail}
 use Rattle.std.proofs.lemmas.List.Quantifiers.{position-Some}
 use Rattle.std.proofs.lemmas.List.Sums.{fails_before_first, position_or_len_is}
 use Rattle.line_streams.specs.Spelling.{HasNo}
 use Rattle.line_streams.proofs.Fronts.{slice_tail}
-
-some_is : (b : Bool) (n i : ℕ) → cond b (Some n) None ≡ Some i → n ≡ i
-some_is true n i e = cc
-some_is false n i e = cc
-
-none_is : (b : Bool) (n : ℕ) → cond b (Some n) None ≡ None → b ≡ false
-none_is true n e = cc
-none_is false n e = cc
 
 -- the index that a search for the byte finds
 pub found_first : (byte : ℕ) (xs : List ℕ) (found : Option ℕ)
@@ -37,11 +30,11 @@ found_first byte xs (Some i) h =
 -- what stands before the first that passes
 pub front_is : (p : ℕ → Bool) (xs : List ℕ) (i : ℕ) → position p xs ≡ Some i
     → take i xs ≡ before_first p xs
-front_is p xs i e = ap (λ n. take n xs) (sym (some_is _ (position_or_len p xs) i e))
+front_is p xs i e = grind (arith, e)
 
 none_before : (p : ℕ → Bool) (xs : List ℕ) → position p xs ≡ None
     → length xs ≤ position_or_len p xs
-none_before p xs e = ltb-false _ _ (none_is _ (position_or_len p xs) e)
+none_before p xs e = grind (arith, nat_tests, e)
 
 -- where none passes, all stands before the first
 pub all_before : (p : ℕ → Bool) (xs : List ℕ) → position p xs ≡ None → before_first p xs ≡ xs

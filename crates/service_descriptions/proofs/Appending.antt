@@ -1,8 +1,7 @@
 -- What stays at the front of a list that grows.
 use Rattle.std.proofs.Common.{◌≡◌, ◌<◌, ◌≤◌, ◌^◌, ℕ, List, arith, ◌++◌, length, take, drop, sym, ◌∙◌, ap, append_assoc}
 use Rattle.std.proofs.Math.Seq.{take-append_seam}
-use Rattle.std.proofs.lemmas.List.{take-append-drop}
-use Rattle.std.specs.Fmt.{decimal}
+use Rattle.service_descriptions.proofs.Names.{take-append-drop, decimal}
 use Rattle.std.proofs.lemmas.Fmt.{length-decimal-le}
 
 -- where a longer front stays, a shorter one does

@@ -1,5 +1,5 @@
+pub mod Names
 pub mod Appending
-pub mod Growing
 pub mod Keeping
 pub mod Lines
 pub mod Listings

@@ -2,20 +2,11 @@
 use Rattle.std.proofs.Common.{◌≡◌, ◌≢◌, ℕ, ◌<◌, ◌^◌, List, [], ◌∷◌, ◌++◌, Some, None, Vec, arith, refl, sym, ◌∙◌, ap, subst, append_assoc, codes, map, get_or}
 use Rattle.std.specs.Prelude.{◌==◌, if◌then◌else◌}
 use Rattle.std.specs.declared.alloc.Global.{Global}
-use Rattle.std.specs.List.{AllByRecursion, join_with_byte}
-use Rattle.iox2_dynamic.specs.declared.dynamic_config.port_details.PortDetails.{PortDetails}
+use Rattle.service_descriptions.proofs.Names.{AllByRecursion, join_with_byte, PortDetails, Newline, Bytes, Nowhere, reads_after, reads_then, number_one, line_end_one, sequence_one, after_one, Spelling, OneWay, Reads, Lacks, EndsNumber, OthersFit, others_text, number, line_end, sequence, after, ByPort, Command, id_text, IsId, line_of, line_text, HasLine, IsLine, SameCommand, skip_words, dead_one, node_id_one, role_one, port_one, id_phrase, node_id_phrase, dead_phrase, three_phrase, spelled_of}
 use Rattle.line_streams.specs.declared.phrase.LineEnd.{LineEnd}
-use Rattle.line_streams.specs.declared.phrase.LineEnd.TheVariants.{Newline, Bytes}
-use Rattle.line_streams.proofs.Words.{Nowhere, reads_after, reads_then}
 use Rattle.line_streams.specs.Numerals.{cons_same}
-use Rattle.line_streams.specs.OneWay.{number_one, line_end_one, sequence_one, after_one}
-use Rattle.line_streams.specs.Spelling.{Spelling, OneWay, Reads, Lacks, EndsNumber, OthersFit, others_text, number, line_end, sequence, after, listed}
-use Rattle.service_descriptions.specs.declared.replay.machine.command.Cleanup.TheVariants.{ByPort}
-use Rattle.service_descriptions.specs.declared.replay.machine.command.Command.{Command}
+use Rattle.line_streams.specs.Spelling.{listed}
 use Rattle.service_descriptions.specs.declared.replay.machine.command.Command.TheVariants as command
-use Rattle.service_descriptions.specs.Lines.{id_text, IsId, line_of, line_text, HasLine, IsLine, SameCommand, skip_words}
-use Rattle.service_descriptions.specs.OneWay.{dead_one, node_id_one, role_one, port_one}
-use Rattle.service_descriptions.specs.Phrases.{id_phrase, node_id_phrase, dead_phrase, three_phrase, spelled_of}
 
 -- a number of 64 bits
 abbrev pub any_number : Spelling ℕ
@@ -91,7 +82,7 @@ seen (command.Dead id (ByPort kept)) = ((id, kept.items), tt)
 seen _ = tt
 
 -- a line of a kind: its word, and what follows it
-abbrev line : LineEnd → (k : Kind) → Spelling (form k).Seen
+abbrev pub line : LineEnd → (k : Kind) → Spelling (form k).Seen
 line end k = after (form k).word ((form k).phrase end)
 
 abbrev pub kept_phrase : Spelling (List ℕ)
@@ -211,6 +202,12 @@ no_line k end rest bytes is none a fits e =
     subst (λ (l : Kind). Nowhere (line end l) bytes) same
     (reads_after (form k).word ((form k).phrase end) rest bytes None is none) in
     nowhere (seen a.0, a.1) (fit end a.0 a.1 fits) there
+
+-- where no line of any kind begins the bytes, no command's line does
+pub no_command : (end : LineEnd) (bytes : List ℕ) → ((k : Kind) → Nowhere (line end k) bytes)
+    → (a : Command × List ℕ) → IsLine end a → bytes ≢ line_text end a
+no_command end bytes none a fits e =
+    none (kind_of a.0) (seen a.0, a.1) (fit end a.0 a.1 fits) (e ∙ is_line_text end a.0 a.1 fits.0)
 
 -- what was read as the words of a dead node is its line
 all_others : (ports rest : List ℕ) → OthersFit 32 id_phrase ports rest → AllByRecursion IsId ports

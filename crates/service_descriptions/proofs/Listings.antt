@@ -1,27 +1,13 @@
 -- Lines of lists, written by a callback as it is shown the items.
 use Rattle.std.proofs.Common.{◌≡◌, ℕ, ◌≤◌, Bool, true, false, Result, Ok, Err, List, [], ◌∷◌, ◌++◌, codes, length, map, take, refl, sym, ◌∙◌, ap, subst, inl, inr, arith, append_assoc, length-append}
 use Rattle.std.specs.Prelude.{if◌then◌else◌, is_ok, OnOk, OnErr}
-use Rattle.std.specs.Global.{Vec}
-use Rattle.std.specs.List.{flat_map}
+use Rattle.service_descriptions.proofs.Names.{Vec, flat_map, append-nil, port_value, Role, ContainerState, container_as, entry_as, Entry, Visit, listed, PortDetails, port_of, side_of, LacksRole, Service, role_at, PutsText, PutsWord, WritesLine, Written, kind_text, ports_text, id_word, port_word}
 use Rattle.std.specs.declared.alloc.AllocError.{AllocError}
-use Rattle.std.proofs.lemmas.List.{append-nil}
-use Rattle.iox2_ids.specs.PortId.{port_value}
 use Rattle.iox2_texts.specs.Attribute.{Visits}
 use Rattle.iox2_texts.specs.declared.bounded.callback_progression.CallbackProgression.{CallbackProgression}
 use Rattle.iox2_texts.specs.declared.bounded.callback_progression.CallbackProgression.TheVariants.{Continue, Stop}
-use Rattle.iox2_container.specs.declared.container.role.Role.{Role}
-use Rattle.iox2_container.specs.ContainerState.{ContainerState}
-use Rattle.iox2_container.specs.Mapped.{container_as, entry_as}
-use Rattle.iox2_container.specs.State.{Entry}
-use Rattle.iox2_container.specs.Steps.{Visit, listed}
-use Rattle.iox2_dynamic.specs.declared.dynamic_config.port_details.PortDetails.{PortDetails}
-use Rattle.iox2_dynamic.specs.Details.{port_of}
-use Rattle.iox2_dynamic.specs.PortsState.{side_of}
-use Rattle.iox2_dynamic.specs.Service.{LacksRole, Service, role_at}
 use Rattle.service_descriptions.specs.declared.replay.machine.reply.LineAnswer.TheVariants as answer
 use Rattle.service_descriptions.specs.declared.replay.machine.reply.Reply.TheVariants as reply
-use Rattle.service_descriptions.specs.LineAnswers.{PutsText, PutsWord, WritesLine, Written, kind_text, ports_text}
-use Rattle.service_descriptions.specs.Replies.{id_word, port_word}
 use Rattle.service_descriptions.proofs.Appending.{front_stays}
 
 abbrev Refusal : Type 0

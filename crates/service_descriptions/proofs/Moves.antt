@@ -1,47 +1,22 @@
 -- Each command moves a service on: it keeps its number, and gives each ticket once.
-use Rattle.std.proofs.Common.{◌≡◌, ℕ, ◌<◌, ◌≤◌, Bool, true, false, Option, Some, None, Result, Ok, Err, List, inl, inr, refl, sym, ◌∙◌, ap, subst}
+use Rattle.std.proofs.Common.{◌≡◌, ℕ, ◌<◌, ◌≤◌, Bool, true, false, Option, Some, None, Result, Ok, Err, List, inl, inr, arith, refl, sym, ◌∙◌, ap, subst}
 use Rattle.std.specs.Prelude.{IfSome, MatchResult, ok_or}
 use Rattle.iox2_texts.specs.Verify.{Requirements}
-use Rattle.iox2_config.specs.declared.hash.input.PatternKind.{PatternKind}
+use Rattle.service_descriptions.proofs.Names.{PatternKind, ContainerAddFailure, Default, LockIfLastIndex, ReleaseState, Role, Removes, Handle, ContainerState, RegistryState, AddStep, is_of, DeregisterNodeState, PortDetails, node_of, has_ports_of, Side, of_side, other_side, First, Second, Service, IsService, AddsPort, RemovesPort, NodesAfter, Description, Cleanup, Command, Reply, CleanedUp, ServesDead, ServesVerify, ServesMessages, ServesLayout, ServesPlaces, ServesCompatible, named, tickets_of, ServesNodes, ServesList, ServesCount, ServesRegister, ServesDeregister, ServesAdd, ServesRelease, Serves, handle_in}
 use Rattle.iox2_config.specs.declared.hash.input.PatternKind.TheVariants as kind
 use Rattle.iox2_config.specs.declared.types.message_details.MessageTypeDetails.{MessageTypeDetails}
-use Rattle.iox2_container.specs.declared.container.refusal.ContainerAddFailure.{ContainerAddFailure}
 use Rattle.iox2_container.specs.declared.container.refusal.ContainerAddFailure.TheVariants as container
 use Rattle.iox2_container.specs.declared.container.refusal.ContainerRemoveError.{ContainerRemoveError}
 use Rattle.iox2_container.specs.declared.container.refusal.ContainerRemoveError.TheVariants as remove
-use Rattle.iox2_container.specs.declared.container.release.ReleaseMode.TheVariants.{Default, LockIfLastIndex}
-use Rattle.iox2_container.specs.declared.container.release.ReleaseState.{ReleaseState}
-use Rattle.iox2_container.specs.declared.container.role.Role.{Role}
+use Rattle.iox2_container.specs.declared.container.release.ReleaseState.TheVariants.{Locked, Unlocked}
 use Rattle.iox2_container.specs.declared.container.role.Role.TheVariants as role
-use Rattle.iox2_container.specs.Changes.{Removes}
-use Rattle.iox2_container.specs.Handle.{Handle}
-use Rattle.iox2_container.specs.ContainerState.{ContainerState}
-use Rattle.iox2_container.specs.State.{RegistryState}
-use Rattle.iox2_container.specs.Steps.{AddStep, is_of}
-use Rattle.iox2_dynamic.specs.declared.dynamic_config.answers.DeregisterNodeState.{DeregisterNodeState}
 use Rattle.iox2_dynamic.specs.declared.dynamic_config.answers.DeregisterNodeState.TheVariants as nodes
-use Rattle.iox2_dynamic.specs.declared.dynamic_config.port_details.PortDetails.{PortDetails}
 use Rattle.iox2_dynamic.specs.Answers.{state_of}
-use Rattle.iox2_dynamic.specs.Details.{node_of}
-use Rattle.iox2_dynamic.specs.Ports.{has_ports_of}
-use Rattle.iox2_dynamic.specs.PortsState.{Side, of_side, other_side}
-use Rattle.iox2_dynamic.specs.PortsState.Side.{First, Second}
-use Rattle.iox2_dynamic.specs.Service.{Service, IsService, first_role, second_role}
-use Rattle.iox2_dynamic.specs.Steps.{AddsPort, RemovesPort, NodesAfter}
-use Rattle.iox2_static.specs.Description.{Description}
-use Rattle.service_descriptions.specs.declared.replay.machine.command.Cleanup.{Cleanup}
-use Rattle.service_descriptions.specs.declared.replay.machine.command.Command.{Command}
+use Rattle.iox2_dynamic.specs.Service.{IsPortRegistry, role_at}
 use Rattle.service_descriptions.specs.declared.replay.machine.command.Command.TheVariants as command
 use Rattle.service_descriptions.specs.declared.replay.machine.command.MessagePart.{MessagePart}
-use Rattle.service_descriptions.specs.declared.replay.machine.reply.Reply.{Reply}
 use Rattle.service_descriptions.specs.declared.replay.machine.reply.Reply.TheVariants as reply
-use Rattle.service_descriptions.specs.Cleanups.{CleanedUp, ServesDead}
-use Rattle.service_descriptions.specs.Descriptions.{ServesVerify, ServesMessages, ServesLayout, ServesPlaces, ServesCompatible}
-use Rattle.service_descriptions.specs.Handles.{named, tickets_of}
-use Rattle.service_descriptions.specs.Listings.{ServesNodes, ServesList, ServesCount}
-use Rattle.service_descriptions.specs.Steps.{ServesRegister, ServesDeregister, ServesAdd, ServesRelease, Serves, handle_in}
 use Rattle.iox2_container.proofs.Growing.{Grows, grows_same, grows_add, grows_remove, grows_recover}
-use Rattle.service_descriptions.proofs.Growing.{NewIn, new_add}
 
 -- a handle is the next one of its role
 pub record IsNext (old new : Service) (h : Handle) : Type 0 where
@@ -104,60 +79,47 @@ by_side Second old new given e g others next =
     moved old new given (grows_same _ _ e)
     (grows_same _ _ (ap (λ c. c.registry) others)) g next
 
-first_tickets : (s : Service) (k : PatternKind)
-    → tickets_of s (first_role k) ≡ s.ports.first.registry.used
-first_tickets s kind.PublishSubscribe = refl
-first_tickets s _ = refl
+side_tickets : (side : Side) (s : Service) (k : PatternKind)
+    → tickets_of s (role_at k side) ≡ (of_side side s.ports.first s.ports.second).registry.used
+side_tickets First s kind.PublishSubscribe = refl
+side_tickets First s _ = refl
+side_tickets Second s kind.PublishSubscribe = refl
+side_tickets Second s _ = refl
 
-second_tickets : (s : Service) (k : PatternKind)
-    → tickets_of s (second_role k) ≡ s.ports.second.registry.used
-second_tickets s kind.PublishSubscribe = refl
-second_tickets s _ = refl
-
--- the next handle of a registry is that of its role
-next_of : {T : Type 0} (old new : Service) (before after : RegistryState T) (role : Role)
+-- the handle of an add to a registry is the next one of its role
+next_of : {T : Type 0} (old new : Service) (before after : RegistryState T) (role : Role) (x : T)
     (h : Handle) → before.service ≡ old.nodes.registry.service → before.role ≡ role
-    → tickets_of old role ≡ before.used → tickets_of new role ≡ after.used → NewIn before after h
-    → IsNext old new h
-next_of old new before after role h number is used used' n =
-    let of_role : h.role ≡ role = n.role ∙ is in
+    → tickets_of old role ≡ before.used → tickets_of new role ≡ after.used
+    → AddStep before x (Ok h) after → IsNext old new h
+next_of old new before after role x h number is used used' s =
+    let ticket = ap (λ k. k.ticket) s.2.0 in
+    let of_role : h.role ≡ role = ap (λ k. k.role) s.2.0 ∙ is in
     record {
-      service = n.service ∙ number;
-      ticket = n.ticket ∙ sym (ap (tickets_of old) of_role ∙ used);
-      given = subst (λ k. h.ticket < k) (sym (ap (tickets_of new) of_role ∙ used')) n.used;
+      service = ap (λ k. k.service) s.2.0 ∙ number;
+      ticket = ticket ∙ sym (ap (tickets_of old) of_role ∙ used);
+      given = subst (λ k. h.ticket < k) (sym (ap (tickets_of new) of_role ∙ used'))
+          (omega (arith, ticket, ap (λ r. r.used) s.2.3));
     }
 
 registers : (old : Service) (id : ℕ) (r : Reply) (new : Service) → IsService old
     → ServesRegister old id r new → Moves old new (handle_in r)
 registers old id (reply.Handle h) new i s =
-    by_nodes old new (Some h) s.1
-    (grows_add old.nodes.registry id (Ok h) new.nodes.registry s.0.step)
-    (next_of old new old.nodes.registry new.nodes.registry role.Node h refl i.role_is refl refl
-    (new_add id h s.0.step))
+    by_nodes old new (Some h) s.1 (grows_add _ id (Ok h) _ s.0.step)
+    (next_of old new old.nodes.registry new.nodes.registry role.Node id h refl i.role_is refl refl
+    s.0.step)
 registers old id reply.Locked new i s =
-    by_nodes old new None s.1
-    (grows_add old.nodes.registry id (Err container.IsLocked) new.nodes.registry s.0.step) tt
+    by_nodes old new None s.1 (grows_add _ id (Err container.IsLocked) _ s.0.step) tt
 registers old id reply.Full new i s =
-    by_nodes old new None s.1
-    (grows_add old.nodes.registry id (Err container.OutOfSpace) new.nodes.registry s.0.step) tt
+    by_nodes old new None s.1 (grows_add _ id (Err container.OutOfSpace) _ s.0.step) tt
 registers old id _ new i s = absurd s
-
--- a node leaves
-leaves : (old : Service) (handle : Handle) (state : ReleaseState) (new : Service)
-    → Removes old.nodes handle LockIfLastIndex (Ok state) new.nodes
-    → new ≡ record old { nodes = new.nodes } → Moves old new None
-leaves old handle state new gone e =
-    by_nodes old new None e
-    (grows_remove old.nodes.registry handle LockIfLastIndex (Ok state) new.nodes.registry
-    gone.step) tt
 
 deregisters : (old : Service) (handle : Option Handle) (r : Reply) (new : Service)
     → ServesDeregister old handle r new → Moves old new (handle_in r)
 deregisters old None reply.NoHandle new s = still old new s
 deregisters old (Some h) reply.HasOwners new s =
-    leaves old h (state_of nodes.HasOwners) new s.3 s.4
+    by_nodes old new None s.4 (grows_remove _ h LockIfLastIndex (Ok Unlocked) _ s.3.step) tt
 deregisters old (Some h) reply.NoMoreOwners new s =
-    leaves old h (state_of nodes.NoMoreOwners) new s.3 s.4
+    by_nodes old new None s.4 (grows_remove _ h LockIfLastIndex (Ok Locked) _ s.3.step) tt
 deregisters old (Some h) reply.PortsAttached new s = still old new s.3
 deregisters old (Some h) reply.NotOwned new s = still old new s.1
 deregisters old _ _ new s = absurd s
@@ -170,24 +132,18 @@ adds_port old details answer new given (a, e) next =
     by_side a.side old new given (ap (λ s. s.nodes.registry) e)
     (grows_add _ details answer _ a.step.step) a.others next
 
-next_at : (side : Side) (old : Service) (details : PortDetails) (h : Handle) (new : Service)
-    → IsService old
-    → AddStep (of_side side old.ports.first old.ports.second).registry details (Ok h)
-    (of_side side new.ports.first new.ports.second).registry → IsNext old new h
-next_at First old details h new i s =
-    let ports = i.ports_are.first in
-    next_of old new old.ports.first.registry new.ports.first.registry (first_role old.pattern) h
-    ports.number_is ports.role_is (first_tickets old old.pattern) (first_tickets new old.pattern)
-    (new_add details h s)
-next_at Second old details h new i s =
-    let ports = i.ports_are.second in
-    next_of old new old.ports.second.registry new.ports.second.registry (second_role old.pattern) h
-    ports.number_is ports.role_is (second_tickets old old.pattern) (second_tickets new old.pattern)
-    (new_add details h s)
+ports_at : (side : Side) (s : Service) → IsService s
+    → IsPortRegistry s.nodes.registry (role_at s.pattern side)
+    (of_side side s.ports.first s.ports.second).registry
+ports_at First s i = i.ports_are.first
+ports_at Second s i = i.ports_are.second
 
 next_port : (old : Service) (details : PortDetails) (h : Handle) (new : Service) → IsService old
     → AddsPort old details (Ok h) new → IsNext old new h
-next_port old details h new i s = next_at s.0.side old details h new i s.0.step.step
+next_port old details h new i (a, e) =
+    let ports = ports_at a.side old i in
+    next_of old new _ _ (role_at old.pattern a.side) details h ports.number_is ports.role_is
+    (side_tickets a.side old old.pattern) (side_tickets a.side new old.pattern) a.step.step
 
 attaches : (old : Service) (details : PortDetails) (r : Reply) (new : Service) → IsService old
     → ServesAdd old details r new → Moves old new (handle_in r)
@@ -232,10 +188,10 @@ cleans_up old dead cleanup answer new (left, step) =
     let second = step.ports.2 in
     moved old new None
     (nodes_grow dead (has_ports_of dead new.ports) old.nodes (state_of answer) new.nodes step.nodes)
-    (grows_recover (is_of node_of dead) first.1.step.marked old.ports.first.registry Default first.0
-    new.ports.first.registry first.1.step.recovers)
-    (grows_recover (is_of node_of dead) second.1.step.marked old.ports.second.registry Default
-    second.0 new.ports.second.registry second.1.step.recovers) tt
+    (grows_recover (is_of node_of dead) first.1.step.marked _ Default first.0 _
+    first.1.step.recovers)
+    (grows_recover (is_of node_of dead) second.1.step.marked _ Default second.0 _
+    second.1.step.recovers) tt
 
 removes_dead : (old : Service) (dead : ℕ) (cleanup : Cleanup) (r : Reply) (new : Service)
     → ServesDead old dead cleanup r new → Moves old new (handle_in r)

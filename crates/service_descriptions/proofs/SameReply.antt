@@ -1,6 +1,6 @@
 -- When `==` holds of replies.
 use Rattle.std.proofs.Common.{rules, ◌≡◌, ℕ, true, true≢false, refl, sym, ap}
-use Rattle.std.proofs.lemmas.Bool.Decides.{Decides-and, Decides-like}
+use Rattle.service_descriptions.proofs.Names.{Decides-and, Decides-like, Handle, Role, PortDetails, Reply, IsSameReply}
 use Rattle.std.proofs.lemmas.Slice.Eq.{slice_eq-Decides}
 use Rattle.std.specs.Bool.{Decides}
 use Rattle.std.specs.Cmp.{booleans_Decides, unsigned_Decides}
@@ -10,16 +10,11 @@ use Rattle.iox2_ids.specs.contracts.identifiers.unique_id.UniqueNodeIdPartialEq.
 use Rattle.iox2_config.proofs.Equality.{EqualityTest, decided, numbers, pairs, structs}
 use Rattle.iox2_config.specs.SampleLayoutParts.{SampleLayoutParts}
 use Rattle.iox2_config.specs.contracts.types.sample_layout.SampleLayoutPartialEq.TheImpl as room
-use Rattle.iox2_container.specs.Handle.{Handle}
 use Rattle.iox2_container.specs.contracts.container.handle.ContainerHandlePartialEq.TheImpl as handle
 use Rattle.iox2_container.specs.contracts.container.role.RolePartialEq.TheImpl as role
-use Rattle.iox2_container.specs.declared.container.role.Role.{Role}
 use Rattle.iox2_dynamic.specs.contracts.dynamic_config.port_details.PortDetailsPartialEq.TheImpl as port
-use Rattle.iox2_dynamic.specs.declared.dynamic_config.port_details.PortDetails.{PortDetails}
 use Rattle.service_descriptions.specs.contracts.replay.machine.reply.ReplyPartialEq.TheImpl as same
-use Rattle.service_descriptions.specs.declared.replay.machine.reply.Reply.{Reply}
 use Rattle.service_descriptions.specs.declared.replay.machine.reply.Reply.TheVariants as reply
-use Rattle.service_descriptions.specs.Replies.{IsSameReply}
 
 ports_decide : (x y : PortDetails) → Decides (port.ghosts.eq x y) (x ≡ y)
 ports_decide x y = search rules

@@ -1,32 +1,14 @@
 -- No handle is given twice.
 use Rattle.std.proofs.Common.{◌≡◌, ℕ, Ok, Option, Some, None, List, [], ◌∷◌, ◌++◌, refl, sym, ◌∙◌, ap, subst, arith}
 use Rattle.std.specs.Prelude.{IfSome}
-use Rattle.std.proofs.lemmas.List.{map-append}
-use Rattle.std.proofs.lemmas.List.Elements.{All-push, All-weaker}
+use Rattle.service_descriptions.proofs.Names.{map-append, All-push, All-weaker, Vec, Role, Handle, Service, IsService, DeregisterStep, DeregisterNodeState, Description, Cleanup, Command, Reply, CleanedUp, ServesDead, reply_of_owners, Differ, IsGiven, KeepsHandles, handle_at, handles_in, tickets_of, IsSound, described, session_of, LineStep, ServesLine, StandsFor, handle_given, ServesList, ServesNodes, reply_of, IsState, Serves, ServesDeregister, ServiceStep, State, handle_in}
 use Rattle.std.proofs.lemmas.List.Quantifiers.{all_pairs_push}
-use Rattle.std.specs.Global.{Vec}
-use Rattle.iox2_container.specs.declared.container.role.Role.{Role}
-use Rattle.iox2_container.specs.Handle.{Handle}
-use Rattle.iox2_dynamic.specs.Service.{Service, IsService}
-use Rattle.iox2_dynamic.specs.Steps.{DeregisterStep}
-use Rattle.iox2_dynamic.specs.declared.dynamic_config.answers.DeregisterNodeState.{DeregisterNodeState}
 use Rattle.iox2_dynamic.specs.declared.dynamic_config.answers.DeregisterNodeState.TheVariants as nodes
-use Rattle.iox2_static.specs.Description.{Description}
-use Rattle.service_descriptions.specs.declared.replay.machine.command.Cleanup.{Cleanup}
-use Rattle.service_descriptions.specs.declared.replay.machine.command.Command.{Command}
 use Rattle.service_descriptions.specs.declared.replay.machine.reply.LineAnswer.{LineAnswer}
 use Rattle.service_descriptions.specs.declared.replay.machine.reply.LineAnswer.TheVariants as answer
-use Rattle.service_descriptions.specs.declared.replay.machine.reply.Reply.{Reply}
 use Rattle.service_descriptions.specs.declared.replay.machine.reply.Reply.TheVariants as reply
 use Rattle.service_descriptions.specs.declared.replay.machine.session.Earlier.{Earlier}
-use Rattle.service_descriptions.specs.Cleanups.{CleanedUp, ServesDead, reply_of_owners}
-use Rattle.service_descriptions.specs.Handles.{Differ, IsGiven, KeepsHandles, handle_at, handles_in, tickets_of}
 use Rattle.service_descriptions.specs.declared.replay.machine.session.Session.TheInside.{Inside}
-use Rattle.service_descriptions.specs.Fields.{IsSound, described, session_of}
-use Rattle.service_descriptions.specs.LineAnswers.{LineStep, ServesLine, StandsFor, handle_given}
-use Rattle.service_descriptions.specs.Listings.{ServesList, ServesNodes}
-use Rattle.service_descriptions.specs.Replies.{reply_of}
-use Rattle.service_descriptions.specs.Steps.{IsState, Serves, ServesDeregister, ServiceStep, State, handle_in}
 use Rattle.service_descriptions.proofs.Moves.{IsNext, Moves, moves, still}
 
 still_given : (old new : Service) (given g : Option Handle) → Moves old new given → IsGiven old g

@@ -1,7 +1,6 @@
 -- What the fields of a session say.
 use Rattle.std.specs.Prelude.{◌≡◌, Option, None}
-use Rattle.iox2_dynamic.specs.Service.{IsService}
-use Rattle.iox2_static.specs.Description.{Description}
+use Rattle.service_descriptions.specs.Prelude.{IsService, Description}
 use Rattle.service_descriptions.specs.declared.replay.machine.session.Session.TheInside.{Inside}
 use Rattle.service_descriptions.specs.Handles.{handles_in, KeepsHandles}
 use Rattle.service_descriptions.specs.Steps.{State}

@@ -1,9 +1,7 @@
 -- The handles that a service has given.
 use Rattle.std.specs.Prelude.{◌≢◌, ℕ, ◌<◌, List, Option, Some, None, All, AllPairs, map, slice_get, unwrap_or}
-use Rattle.iox2_container.specs.declared.container.role.Role.{Role}
+use Rattle.service_descriptions.specs.Prelude.{Role, Handle, Service}
 use Rattle.iox2_container.specs.declared.container.role.Role.TheVariants as role
-use Rattle.iox2_container.specs.Handle.{Handle}
-use Rattle.iox2_dynamic.specs.Service.{Service}
 use Rattle.service_descriptions.specs.declared.replay.machine.session.Earlier.{Earlier}
 use Rattle.service_descriptions.specs.declared.replay.machine.session.Earlier.TheVariants as earlier
 

@@ -11,7 +11,9 @@ pub mod Script
 pub mod Streams
 -- Promises of no single call: what follows from those definitions.
 pub mod Laws
--- Inner facts: how private fields make a state, and what answers a line.
+-- Inner facts: the names that these files share, how private fields make a state, and what answers
+-- a line.
+pub mod Prelude
 pub mod Fields
 pub mod LineAnswers
 -- The phrases of the lines, and that no two values of one have one text.

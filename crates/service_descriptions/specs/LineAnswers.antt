@@ -1,21 +1,12 @@
 -- What answers commands that have a line, and how the lines of lists grow.
 use Rattle.std.specs.Prelude.{◌≡◌, ℕ, Bool, true, false, List, ◌++◌, Option, None, Result, Ok, OnOk, OnErr, length, take}
-use Rattle.std.specs.List.{flat_map}
+use Rattle.service_descriptions.specs.Prelude.{flat_map, ContainerState, Handle, listed, PortDetails, Ports, Service, Description, Command, Reply}
 use Rattle.std.specs.declared.alloc.AllocError.{AllocError}
 use Rattle.iox2_texts.specs.declared.bounded.callback_progression.CallbackProgression.{CallbackProgression}
 use Rattle.iox2_texts.specs.declared.bounded.callback_progression.CallbackProgression.TheVariants.{Continue, Stop}
-use Rattle.iox2_container.specs.ContainerState.{ContainerState}
-use Rattle.iox2_container.specs.Handle.{Handle}
-use Rattle.iox2_container.specs.Steps.{listed}
-use Rattle.iox2_dynamic.specs.declared.dynamic_config.port_details.PortDetails.{PortDetails}
-use Rattle.iox2_dynamic.specs.Ports.{Ports}
-use Rattle.iox2_dynamic.specs.Service.{Service}
-use Rattle.iox2_static.specs.Description.{Description}
-use Rattle.service_descriptions.specs.declared.replay.machine.command.Command.{Command}
 use Rattle.service_descriptions.specs.declared.replay.machine.command.Command.TheVariants as command
 use Rattle.service_descriptions.specs.declared.replay.machine.reply.LineAnswer.{LineAnswer}
 use Rattle.service_descriptions.specs.declared.replay.machine.reply.LineAnswer.TheVariants as answer
-use Rattle.service_descriptions.specs.declared.replay.machine.reply.Reply.{Reply}
 use Rattle.service_descriptions.specs.Listings.{ServesNodes, ServesList}
 use Rattle.service_descriptions.specs.Replies.{port_word, reply_line, reply_of}
 use Rattle.service_descriptions.specs.Steps.{Serves, ServiceStep, State, handle_in}

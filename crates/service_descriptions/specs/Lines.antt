@@ -1,24 +1,15 @@
 -- The texts of ids, commands and services in a script.
 use Rattle.std.specs.Prelude.{◌≡◌, ◌≢◌, ℕ, ◌<◌, ◌^◌, List, [], ◌∷◌, ◌++◌, codes, map}
-use Rattle.std.specs.Fmt.{decimal}
-use Rattle.std.specs.List.{AllByRecursion, join_with_byte}
-use Rattle.iox2_ids.specs.Packing.{packed, process_of, seconds_of, nanoseconds_of, counter_of, owner_of}
-use Rattle.iox2_ids.specs.PortId.{port_value}
+use Rattle.service_descriptions.specs.Prelude.{decimal, AllByRecursion, join_with_byte, packed, process_of, seconds_of, nanoseconds_of, counter_of, owner_of, port_value, Role, PortDetails, role_of, node_of, port_of, ByPort, Command, line_end}
 use Rattle.iox2_config.specs.declared.config.choices.DataSegmentType.TheVariants.{Static}
-use Rattle.iox2_container.specs.declared.container.role.Role.{Role}
 use Rattle.iox2_container.specs.declared.container.role.Role.TheVariants as role
-use Rattle.iox2_dynamic.specs.declared.dynamic_config.port_details.PortDetails.{PortDetails}
 use Rattle.iox2_dynamic.specs.declared.dynamic_config.port_details.PortDetails.TheVariants as of
-use Rattle.iox2_dynamic.specs.Details.{role_of, node_of, port_of}
-use Rattle.service_descriptions.specs.declared.replay.machine.command.Cleanup.TheVariants.{ByPort}
-use Rattle.service_descriptions.specs.declared.replay.machine.command.Command.{Command}
 use Rattle.service_descriptions.specs.declared.replay.machine.command.Command.TheVariants as command
 use Rattle.service_descriptions.specs.declared.replay.machine.port.Parts.{Parts}
 use Rattle.service_descriptions.specs.declared.replay.machine.port.ScriptPort.{ScriptPort}
 use Rattle.service_descriptions.specs.declared.replay.machine.command.LineCommand.{LineCommand}
 use Rattle.service_descriptions.specs.declared.replay.machine.command.LineCommand.TheVariants as spelled
 use Rattle.line_streams.specs.declared.phrase.LineEnd.{LineEnd}
-use Rattle.line_streams.specs.Spelling.{line_end}
 
 -- the four parts of an id, joined by dots
 abbrev pub id_text : ℕ → List ℕ

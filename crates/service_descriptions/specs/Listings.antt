@@ -1,10 +1,6 @@
 -- How a service replies to queries of its nodes and ports.
 use Rattle.std.specs.Prelude.{◌≡◌, Some}
-use Rattle.iox2_container.specs.declared.container.role.Role.{Role}
-use Rattle.iox2_container.specs.Steps.{listed}
-use Rattle.iox2_dynamic.specs.Ports.{CountsIn, OfRole}
-use Rattle.iox2_dynamic.specs.Service.{LacksRole, Service, first_role, second_role}
-use Rattle.service_descriptions.specs.declared.replay.machine.reply.Reply.{Reply}
+use Rattle.service_descriptions.specs.Prelude.{Role, listed, CountsIn, OfRole, LacksRole, Service, first_role, second_role, Reply}
 use Rattle.service_descriptions.specs.declared.replay.machine.reply.Reply.TheVariants as reply
 
 -- how listing the nodes is answered

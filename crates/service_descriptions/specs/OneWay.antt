@@ -1,16 +1,10 @@
 -- No two values have one word.
 use Rattle.std.proofs.Common.{◌≡◌, ◌≢◌, ℕ, List, ◌∷◌, ◌++◌, codes, get_or, arith, refl, sym, ◌∙◌, ap, subst, append_assoc}
 use Rattle.std.specs.Prelude.{◌==◌, if◌then◌else◌, Some}
-use Rattle.iox2_config.specs.declared.hash.input.PatternKind.{PatternKind}
+use Rattle.service_descriptions.specs.Prelude.{PatternKind, pattern_word, Role, PortDetails, role_of, packed, process_of, seconds_of, nanoseconds_of, counter_of, OneWay, EndsNumber, Reads}
 use Rattle.iox2_config.specs.declared.hash.input.PatternKind.TheVariants as pattern
-use Rattle.iox2_config.specs.Hashing.{pattern_word}
-use Rattle.iox2_container.specs.declared.container.role.Role.{Role}
 use Rattle.iox2_container.specs.declared.container.role.Role.TheVariants as role
-use Rattle.iox2_dynamic.specs.declared.dynamic_config.port_details.PortDetails.{PortDetails}
 use Rattle.iox2_dynamic.specs.declared.dynamic_config.port_details.PortDetails.TheVariants as of
-use Rattle.iox2_dynamic.specs.Details.{role_of}
-use Rattle.iox2_ids.specs.Packing.{packed, process_of, seconds_of, nanoseconds_of, counter_of}
-use Rattle.line_streams.specs.Spelling.{OneWay, EndsNumber, Reads}
 use Rattle.std.proofs.lemmas.List.{append_cancel_left}
 use Rattle.line_streams.specs.Numerals.{cons_same}
 use Rattle.line_streams.specs.OneWay.{number_one, sequence_one, after_one, listed_one}

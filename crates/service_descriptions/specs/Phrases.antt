@@ -1,13 +1,8 @@
 -- The texts of the words of lines, each with what follows it.
 use Rattle.std.specs.Prelude.{◌≢◌, ℕ, List, ◌∷◌, ◌++◌, codes}
-use Rattle.iox2_config.specs.declared.hash.input.PatternKind.{PatternKind}
-use Rattle.iox2_config.specs.Hashing.{pattern_word}
-use Rattle.iox2_container.specs.declared.container.role.Role.{Role}
+use Rattle.service_descriptions.specs.Prelude.{PatternKind, pattern_word, Role, PortDetails, role_of, node_of, port_of, port_value, Spelling, EndsNumber, number, sequence, after}
 use Rattle.iox2_container.specs.declared.container.role.Role.TheVariants as role
-use Rattle.iox2_dynamic.specs.declared.dynamic_config.port_details.PortDetails.{PortDetails}
-use Rattle.iox2_dynamic.specs.Details.{role_of, node_of, port_of}
-use Rattle.iox2_ids.specs.PortId.{port_value}
-use Rattle.line_streams.specs.Spelling.{Spelling, EndsNumber, number, sequence, after, listed}
+use Rattle.line_streams.specs.Spelling.{listed}
 use Rattle.service_descriptions.specs.Lines.{id_text, IsId, IsNodeId, role_word, IsPlain}
 
 -- an id of any kind

@@ -1,15 +1,8 @@
 -- The text of a reply.
 use Rattle.std.specs.Prelude.{◌≡◌, ℕ, true, false, List, [], ◌∷◌, ◌++◌, codes}
-use Rattle.std.specs.Fmt.{decimal}
-use Rattle.std.specs.List.{flat_map}
-use Rattle.iox2_ids.specs.Packing.{hexadecimal}
-use Rattle.iox2_ids.specs.PortId.{port_value}
-use Rattle.iox2_texts.specs.VerifyErrors.{verification_error_text}
-use Rattle.iox2_dynamic.specs.declared.dynamic_config.port_details.PortDetails.{PortDetails}
-use Rattle.iox2_dynamic.specs.Details.{port_of}
+use Rattle.service_descriptions.specs.Prelude.{decimal, flat_map, hexadecimal, port_value, verification_error_text, PortDetails, port_of, Reply}
 use Rattle.service_descriptions.specs.declared.replay.machine.reply.LineReply.{LineReply}
 use Rattle.service_descriptions.specs.declared.replay.machine.reply.LineReply.TheVariants as line
-use Rattle.service_descriptions.specs.declared.replay.machine.reply.Reply.{Reply}
 use Rattle.service_descriptions.specs.declared.replay.machine.reply.Reply.TheVariants as reply
 
 -- a space and an id, as it prints

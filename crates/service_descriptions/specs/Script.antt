@@ -1,13 +1,7 @@
 -- What a script is, and what it gives.
 use Rattle.std.specs.Prelude.{◌≡◌, ◌≢◌, ℕ, ◌+◌, ◌^◌, ◌<◌, List, [], ◌∷◌, ◌++◌, codes, Option, Some, None, Result, Ok, Err, ◌⊎◌, length}
-use Rattle.std.specs.Fmt.{decimal}
-use Rattle.std.specs.List.{flat_map, join_with_byte, AllByRecursion}
-use Rattle.iox2_config.specs.Hashing.{pattern_word}
-use Rattle.service_descriptions.specs.declared.replay.machine.command.Command.{Command}
-use Rattle.service_descriptions.specs.declared.replay.machine.reply.Reply.{Reply}
-use Rattle.service_descriptions.specs.declared.replay.lines.script.ScriptError.{ScriptError}
+use Rattle.service_descriptions.specs.Prelude.{decimal, flat_map, join_with_byte, AllByRecursion, pattern_word, Command, Reply, ScriptError, ServiceLine}
 use Rattle.service_descriptions.specs.declared.replay.lines.script.ScriptError.TheVariants as error
-use Rattle.service_descriptions.specs.declared.replay.lines.service_line.ServiceLine.{ServiceLine}
 use Rattle.service_descriptions.specs.Lines.{line_of, HasLine}
 use Rattle.service_descriptions.specs.Replies.{reply_line}
 use Rattle.service_descriptions.specs.Steps.{State, ServiceStep, new_state, Run}

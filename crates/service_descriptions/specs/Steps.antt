@@ -1,20 +1,13 @@
 -- The step of a service under one command, and runs of many.
 use Rattle.std.specs.Prelude.{◌≡◌, ℕ, ◌-◌, ◌^◌, List, [], ◌∷◌, ◌++◌, Option, Some, None, Result, Ok, Err, AllPairs, take, length}
 use Rattle.iox2_container.specs.declared.container.refusal.ContainerRemoveError.TheVariants as container
-use Rattle.iox2_container.specs.Handle.{Handle}
+use Rattle.service_descriptions.specs.Prelude.{Handle, PortDetails, role_of, Service, IsService, HasRole, LacksRole, PatternCapacities, fresh_service, RegisterStep, DeregisterStep, AttachStep, ReleaseStep, Description, Command, Reply}
 use Rattle.iox2_dynamic.specs.declared.dynamic_config.answers.AttachError.{AttachError}
 use Rattle.iox2_dynamic.specs.declared.dynamic_config.answers.AttachError.TheVariants.{ServiceIsLocked, NodeNotRegistered, OutOfSpace}
 use Rattle.iox2_dynamic.specs.declared.dynamic_config.answers.DeregisterError.TheVariants.{ContainerHandleNotOwnedByContainer, PortsStillAttached}
 use Rattle.iox2_dynamic.specs.declared.dynamic_config.answers.DeregisterNodeState.TheVariants as nodes
 use Rattle.iox2_dynamic.specs.declared.dynamic_config.answers.RegisterNodeResult.TheVariants.{MarkedForDestruction, ExceedsMaxNumberOfNodes}
-use Rattle.iox2_dynamic.specs.declared.dynamic_config.port_details.PortDetails.{PortDetails}
-use Rattle.iox2_dynamic.specs.Details.{role_of}
-use Rattle.iox2_dynamic.specs.Service.{Service, IsService, HasRole, LacksRole, PatternCapacities, fresh_service}
-use Rattle.iox2_dynamic.specs.Steps.{RegisterStep, DeregisterStep, AttachStep, ReleaseStep}
-use Rattle.iox2_static.specs.Description.{Description}
-use Rattle.service_descriptions.specs.declared.replay.machine.command.Command.{Command}
 use Rattle.service_descriptions.specs.declared.replay.machine.command.Command.TheVariants as command
-use Rattle.service_descriptions.specs.declared.replay.machine.reply.Reply.{Reply}
 use Rattle.service_descriptions.specs.declared.replay.machine.reply.Reply.TheVariants as reply
 use Rattle.service_descriptions.specs.Cleanups.{ServesDead}
 use Rattle.service_descriptions.specs.Descriptions.{ServesVerify, ServesMessages, ServesLayout, ServesPlaces, ServesCompatible}

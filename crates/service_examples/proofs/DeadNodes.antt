@@ -1,25 +1,21 @@
 -- What removals of dead nodes leave of a service.
 use Rattle.std.proofs.Common.{◌≡◌, ◌∙◌, ℕ, Bool, true, false, List, [], ◌∷◌, ◌++◌, length, refl, sym, ap}
 use Rattle.std.specs.Prelude.{nat_lt, ◌||◌}
-use Rattle.std.specs.Fn.{Mut, Called}
-use Rattle.iox2_ids.specs.declared.identifiers.port_id.UniquePortId.{UniquePortId}
-use Rattle.iox2_container.specs.declared.container.release.ReleaseMode.TheVariants.{LockIfLastIndex}
-use Rattle.iox2_container.specs.declared.container.release.ReleaseState.{ReleaseState}
-use Rattle.iox2_container.specs.ContainerState.{ContainerState}
-use Rattle.iox2_container.specs.State.{Entry, RegistryState}
-use Rattle.iox2_container.specs.Steps.{candidates, is_of, lock_after, staying}
+use Rattle.iox2_dynamic.proofs.Names.{UniquePortId, LockIfLastIndex, ReleaseState, ContainerState, Entry, RegistryState, candidates, is_of, staying}
 use Rattle.iox2_dynamic.specs.declared.dynamic_config.answers.DeregisterNodeState.{DeregisterNodeState}
 use Rattle.iox2_dynamic.specs.declared.dynamic_config.cleanup.PortCleanupAction.{PortCleanupAction}
-use Rattle.iox2_dynamic.specs.declared.dynamic_config.cleanup.PortCleanupAction.TheVariants.{RemovePort}
 use Rattle.iox2_dynamic.specs.declared.dynamic_config.port_details.PortDetails.{PortDetails}
-use Rattle.iox2_dynamic.specs.Answers.{state_of}
 use Rattle.iox2_dynamic.specs.Recoveries.{CallsCleanup, RecoversPorts, RecoversNodes, removes}
 use Rattle.iox2_dynamic.specs.Details.{node_of, port_of}
 use Rattle.iox2_dynamic.specs.Ports.{has_ports_of}
 use Rattle.iox2_dynamic.specs.Service.{Service}
-use Rattle.iox2_dynamic.specs.Steps.{DeadStep, NodesAfter}
+use Rattle.iox2_dynamic.specs.Steps.{DeadStep}
+use Rattle.iox2_container.specs.Steps.{lock_after}
+use Rattle.iox2_container.proofs.Collecting.{passes_all}
+use Rattle.iox2_dynamic.specs.declared.dynamic_config.cleanup.PortCleanupAction.TheVariants.{RemovePort}
+use Rattle.iox2_dynamic.specs.Answers.{state_of}
 use Rattle.service_examples.specs.Removal.{OnlyOthersStay, others, last_went, ports_without, nodes_without}
-use Rattle.service_examples.proofs.Others.{all_go, all_stay, fewer, lock_is, lock_then, none_left, still_locked, others_then}
+use Rattle.service_examples.proofs.Others.{all_go, fewer, lock_is, lock_then, none_left, still_locked, others_then}
 
 -- all ports of the node go where each answer is that they do
 ports_go : {F : Type 0} (calls : F → UniquePortId → PortCleanupAction → F → Type 0)
@@ -41,33 +37,17 @@ nodes_go : (dead : ℕ) (old : ContainerState ℕ) (state : ReleaseState) (new :
     → RecoversNodes dead old state new → new.registry ≡ nodes_without (dead ∷ []) old.registry
 nodes_go dead old state new r =
     let node : ℕ → ℕ = λ id. id in
-    let called : Unit {0} → ℕ → Bool → Unit {0} → Type 0 = λ _ _ goes _. goes ≡ true in
-    let before : List (Entry ℕ) = old.registry.entries in
-    let stay : List (Entry ℕ) = others node (dead ∷ []) before in
-    let left : List (Entry ℕ) = staying (is_of node dead) r.step.marked before in
-    let go : left ≡ stay =
-    all_go called (λ f x r h a. a) node dead r.step.marked before tt tt r.step.called in
-    let entries : new.registry.entries ≡ stay =
-    ap (λ (n : RegistryState ℕ). n.entries) r.step.recovers.0 ∙ go in
-    r.step.recovers.0
-    ∙ (ap (λ (es : List (Entry ℕ)).
-    record old.registry {
-      entries = left;
-      locked = lock_after LockIfLastIndex (length before) (length es) old.registry.locked;
-    }) entries
-    ∙ (ap (λ (l : Bool). record old.registry { entries = left; locked = l })
-    (lock_is before stay old.registry.locked)
-    ∙ ap (λ (es : List (Entry ℕ)).
-    record old.registry {
-      entries = es;
-      locked = old.registry.locked || last_went before stay;
-    }) go))
-
-nodes_after : (dead : ℕ) (b : Bool) (old : ContainerState ℕ) (state : ReleaseState)
-    (new : ContainerState ℕ) → b ≡ false → NodesAfter dead b old state new
-    → RecoversNodes dead old state new
-nodes_after dead true old state new e n = (let bad : true ≡ false = e in cc)
-nodes_after dead false old state new e n = n
+    let before = old.registry.entries in
+    let locked = old.registry.locked in
+    let is = r.step.recovers.0 in
+    let go =
+    all_go {F = Unit {0}} (λ _ _ goes _. goes ≡ true) (λ f x r h a. a) node dead r.step.marked
+    before tt tt r.step.called in
+    let lock =
+    ap (λ (es : List (Entry ℕ)). lock_after LockIfLastIndex (length before) (length es) locked)
+    (ap (λ (n : RegistryState ℕ). n.entries) is ∙ go)
+    ∙ lock_is before (others node (dead ∷ []) before) locked in
+    is ∙ (λ i. record old.registry { entries = go i; locked = lock i })
 
 none_of : (dead : ℕ) (old new : RegistryState PortDetails) → new ≡ ports_without (dead ∷ []) old
     → length (candidates (is_of node_of dead) new.entries) ≡ 0
@@ -77,10 +57,11 @@ none_of dead old new e =
 
 -- one dead node is removed, and all its ports
 pub one_removed : {F : Type 0} (calls : F → UniquePortId → PortCleanupAction → F → Type 0)
+    (old : Service) (f : F) (dead : ℕ) (answer : DeregisterNodeState) (new : Service) (h : F)
+    → DeadStep calls old f dead answer new h
     → ((f : F) (x : UniquePortId) (r : PortCleanupAction) (h : F) → calls f x r h → r ≡ RemovePort)
-    → (old : Service) (f : F) (dead : ℕ) (answer : DeregisterNodeState) (new : Service) (h : F)
-    → DeadStep calls old f dead answer new h → OnlyOthersStay (dead ∷ []) old new
-one_removed calls agrees old f dead answer new h r =
+    → OnlyOthersStay (dead ∷ []) old new
+one_removed calls old f dead answer new h r agrees =
     let first = ports_go calls agrees dead old.ports.first f new.ports.first r.ports.0
     r.ports.1 in
     let second = ports_go calls agrees dead old.ports.second r.ports.0 new.ports.second
@@ -93,29 +74,17 @@ one_removed calls agrees old f dead answer new h r =
     ∙ ap (λ n. nat_lt 0 0 || nat_lt 0 n) b in
     record {
       pattern = ap (λ (s : Service). s.pattern) r.others;
-      nodes = nodes_go dead old.nodes (state_of answer) new.nodes
-          (nodes_after dead (has_ports_of dead new.ports) old.nodes
-          (state_of answer) new.nodes none r.nodes);
+      nodes = nodes_go dead old.nodes (state_of answer) new.nodes (rw none at r.nodes);
       first_ports = first;
       second_ports = second;
     }
-
--- the same, where the calls are those of a closure
-pub one_removed_by : {F : Type 0} (g : Mut F (UniquePortId × Unit {0}) PortCleanupAction)
-    (old : Service) (f : F) (dead : ℕ) (answer : DeregisterNodeState) (new : Service) (h : F)
-    → DeadStep (λ f x r h. Called g f (x, tt) r h) old f dead answer new h
-    → ((f : F) (x : UniquePortId) (r : PortCleanupAction) (h : F) → Called g f (x, tt) r h
-    → r ≡ RemovePort)
-    → OnlyOthersStay (dead ∷ []) old new
-one_removed_by g old f dead answer new h r agrees =
-    one_removed (λ f x r h. Called g f (x, tt) r h) agrees old f dead answer new h r
 
 -- no node is removed
 pub none_removed : (s : Service) → OnlyOthersStay [] s s
 none_removed s =
     let ports : (r : RegistryState PortDetails) → r ≡ ports_without [] r =
     λ r. ap (λ (es : List (Entry PortDetails)). record r { entries = es })
-    (sym (all_stay node_of r.entries)) in
+    (sym (passes_all r.entries)) in
     let node : ℕ → ℕ = λ id. id in
     let n : RegistryState ℕ = s.nodes.registry in
     record {
@@ -123,7 +92,7 @@ none_removed s =
       nodes = ap (λ (l : Bool). record n { locked = l }) (sym (still_locked n.locked n.entries))
           ∙ ap (λ (es : List (Entry ℕ)).
           record n { entries = es; locked = n.locked || last_went n.entries es })
-          (sym (all_stay node n.entries));
+          (sym (passes_all n.entries));
       first_ports = ports s.ports.first.registry;
       second_ports = ports s.ports.second.registry;
     }

@@ -1,4 +1,3 @@
-pub mod Segments
 pub mod Others
 pub mod DeadNodes
 pub mod Listing

@@ -4,13 +4,11 @@ use Rattle.std.specs.Global.{Vec}
 use Rattle.std.proofs.lemmas.List.{length-append, length-map}
 use Rattle.iox2_texts.specs.declared.bounded.callback_progression.CallbackProgression.{CallbackProgression}
 use Rattle.iox2_texts.specs.declared.bounded.callback_progression.CallbackProgression.TheVariants.{Continue}
-use Rattle.iox2_container.specs.declared.container.role.Role.{Role}
-use Rattle.iox2_container.specs.Callbacks.{CanVisit}
-use Rattle.iox2_container.specs.Steps.{Visit, listed}
-use Rattle.iox2_container.proofs.Collecting.{CanVisit-collecting, collects, all_pass, passes_all}
+use Rattle.iox2_dynamic.proofs.Names.{Role, CanVisit, Visit, listed}
 use Rattle.iox2_dynamic.specs.declared.dynamic_config.port_details.PortDetails.{PortDetails}
-use Rattle.iox2_dynamic.specs.Ports.{ListsIn}
 use Rattle.iox2_dynamic.specs.Service.{Service, first_role, second_role}
+use Rattle.iox2_container.proofs.Collecting.{CanVisit-collecting, collects, all_pass, passes_all}
+use Rattle.iox2_dynamic.specs.Ports.{ListsIn}
 use Rattle.iox2_dynamic.proofs.Rooms.{roles_differ}
 use Rattle.service_examples.specs.declared.discovery.Member.{Member}
 use Rattle.service_examples.specs.declared.discovery.Member.TheVariants.{Port}

@@ -3,27 +3,19 @@ use Rattle.std.proofs.Common.{◌≡◌, ◌∙◌, ℕ, ◌≤◌, Bool, true, 
 use Rattle.std.specs.Prelude.{if◌then◌else◌, not, ◌||◌, ◌&&◌, ◌==◌}
 use Rattle.std.specs.List.{list_any}
 use Rattle.std.proofs.Math.Bool.{or-false, or-true, and-true}
-use Rattle.std.proofs.lemmas.Bool.{eqb-true, eq-eqb, ne_eqb}
+use Rattle.std.proofs.lemmas.Bool.Decides.{nat_tests}
 use Rattle.std.proofs.lemmas.List.Filters.{length-filter_both}
 use Rattle.std.proofs.lemmas.List.Elements.{filter_agree}
 use Rattle.std.proofs.lemmas.List.Folds.{list_any-append}
-use Rattle.iox2_container.specs.declared.container.release.ReleaseMode.TheVariants.{LockIfLastIndex}
+use Rattle.iox2_dynamic.proofs.Names.{LockIfLastIndex, Entry, CalledInTurn, candidates, is_of, marks_of, staying}
 use Rattle.iox2_container.specs.Calls.{is_outside}
-use Rattle.iox2_container.specs.State.{Entry}
-use Rattle.iox2_container.specs.Steps.{CalledInTurn, candidates, is_of, lock_after, marks_of, staying}
+use Rattle.iox2_container.specs.Steps.{lock_after}
 use Rattle.iox2_container.proofs.Collecting.{answers_by}
 use Rattle.iox2_container.proofs.Leaving.{staying_by}
 use Rattle.service_examples.specs.Removal.{others, last_went}
 
-not_both : false ≡ true → ⊥
-not_both e = (cc)
-
 same_order : (a b : ℕ) → (a == b) ≡ (b == a)
-same_order a b =
-    (elim (a == b) as (λ k. (a == b) ≡ k → k ≡ (b == a)) [
-      | true ↦ λ e. sym (eq-eqb b a (sym (eqb-true a b e)))
-      | false ↦ λ e. sym (ne_eqb b a (λ k. not_both (sym e ∙ eq-eqb a b (sym k))))
-    ]) refl
+same_order a b = grind (arith, nat_tests)
 
 -- whether one node is meant
 is_other : {T : Type 0} (node : T → ℕ) (d : ℕ) (x : T)
@@ -57,47 +49,18 @@ lock_is (e ∷ all) (l ∷ left) locked = sym (or-false locked)
 pub none_left : {T : Type 0} (node : T → ℕ) (d : ℕ) (es : List (Entry T))
     → candidates (is_of node d) (others node (d ∷ []) es) ≡ []
 none_left node d [] = refl
-none_left {T} node d (e ∷ es) =
-    let stay : List (Entry T) = others node (d ∷ []) es in
-    subst (λ b. candidates (is_of node d) (if b then e ∷ stay else stay) ≡ [])
-    (is_other node d e.details)
-    ((elim (is_of node d e.details) as
-    (λ b. is_of node d e.details ≡ b
-    → candidates (is_of node d) (if not b then e ∷ stay else stay) ≡ []) [
-      | true ↦ λ _. none_left node d es
-      | false ↦ λ is. ap
-          (λ b. if b then e
-          ∷ candidates (is_of node d) stay else candidates (is_of node d) stay) is
-          ∙ none_left node d es
-    ]) refl)
-
--- nobody is dead
-pub all_stay : {T : Type 0} (node : T → ℕ) (es : List (Entry T)) → others node [] es ≡ es
-all_stay node [] = refl
-all_stay {T} node (e ∷ es) = ap (λ (l : List (Entry T)). e ∷ l) (all_stay node es)
+none_left node d (e ∷ es) = grind (arith, is_other node d e.details, none_left node d es)
 
 -- first some dead nodes are removed, and then others
 pub others_then : {T : Type 0} (node : T → ℕ) (ds ms : List ℕ) (es : List (Entry T))
     → others node ms (others node ds es) ≡ others node (ds ++ ms) es
 others_then node ds ms [] = refl
-others_then {T} node ds ms (e ∷ es) =
-    let is : ℕ → Bool = λ d. d == node e.details in
-    let fewer : List (Entry T) = others node ds es in
-    let both : List (Entry T) = others node (ds ++ ms) es in
-    let ih = others_then node ds ms es in
-    subst (λ b. others node ms (others node ds (e ∷ es)) ≡ (if not b then e ∷ both else both))
-    (sym (list_any-append is ds ms))
-    (elim (list_any is ds) as
-    (λ a. others node ms (if not a then e ∷ fewer else fewer)
-    ≡ (if not (a || list_any is ms) then e ∷ both else both)) [
-      | true ↦ ih
-      | false ↦ elim (list_any is ms) as
-          (λ b. (if not b then e ∷ others node ms fewer else others node ms fewer)
-          ≡ (if not b then e ∷ both else both)) [
-            | true ↦ ih
-            | false ↦ ap (λ (l : List (Entry T)). e ∷ l) ih
-          ]
-    ])
+others_then node ds ms (e ∷ es) =
+    grind (
+      arith,
+      list_any-append (λ (d : ℕ). d == node e.details) ds ms,
+      others_then node ds ms es,
+    )
 
 pub fewer : {T : Type 0} (node : T → ℕ) (ds : List ℕ) (es : List (Entry T))
     → length (others node ds es) ≤ length es

@@ -3,7 +3,7 @@
 ghost use Rattle.std.specs.Prelude.{◌≡◌, ◌+◌, ◌<◌, ◌^◌, false, length};
 ghost use Rattle.iox2_container.specs.Steps.{entries_of};
 
-use iox2_container::container::{Attached, Container, Registry, ReleaseMode};
+use iox2_container::container::{Attached, Registry, ReleaseMode};
 use iox2_ids::identifiers::UniqueNodeId;
 use iox2_texts::bounded::CallbackProgression;
 
@@ -45,20 +45,5 @@ pub fn count_called<T: Attached + Copy, R: Registry<T>>(
         false
     };
     registry.recover(node, &mut stays, ReleaseMode::Default);
-    count
-}
-
-/// The nodes of a scan, counted by a closure with no clause.
-pub fn count_nodes(nodes: &Container<UniqueNodeId>) -> usize
-    ensures { result ≡ length nodes.now.registry.entries }
-{
-    // For the proof: the number of entries fits a `usize`.
-    let _bound = nodes.len();
-    let mut count = 0usize;
-    let mut one_more = |_: &UniqueNodeId| {
-        count += 1;
-        CallbackProgression::Continue
-    };
-    nodes.for_each(&mut one_more);
     count
 }

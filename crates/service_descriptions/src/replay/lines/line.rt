@@ -11,7 +11,7 @@ ghost use Rattle.service_descriptions.specs.Phrases.{id_phrase, node_id_phrase, 
 
 use crate::replay::machine::{Command, LineCommand, Parts, ScriptPort};
 use iox2_container::container::Role;
-use iox2_ids::identifiers::UniqueNodeId;
+use iox2_ids::identifiers::{UniqueNodeId, UniqueReaderId};
 use line_streams::{After, LineEnd, Number, Phrase, Then, after_word, list_before};
 use std::alloc::{AllocError, Global};
 
@@ -68,7 +68,8 @@ impl<'a> Phrase<'a> for IdNumber {
     #[inline(always)]
     fn read(&self, bytes: &'a [u8]) -> Option<(u128, &'a [u8])> {
         let (parts, rest) = Id.read(bytes)?;
-        Some((parts.value(), rest))
+        let id: UniqueReaderId = parts.id();
+        Some((id.value(), rest))
     }
 
     ghost one_way = { λ s. id_one };
@@ -206,35 +207,17 @@ pub fn command_before(
     ensures { IfOk result (λ found. Reads (IsLine end) (line_text end)
         (option_map (λ found. (command_of found.0, found.1.now)) found) bytes.now) }
 {
-    if let Some(rest) = after_word(bytes, b"register ") {
-        let Some(((node, ()), rest)) = Then(NodeId, end).read(rest) else {
-            return Ok(None);
-        };
+    if let Some(((node, ()), rest)) = After(b"register ", Then(NodeId, end)).read(bytes) {
         Ok(Some((LineCommand::Register(node), rest)))
-    } else if let Some(rest) = after_word(bytes, b"deregister ") {
-        let Some(((k, ()), rest)) = Then(EARLIER, end).read(rest) else {
-            return Ok(None);
-        };
+    } else if let Some(((k, ()), rest)) = After(b"deregister ", Then(EARLIER, end)).read(bytes) {
         Ok(Some((LineCommand::Deregister(k as usize), rest)))
-    } else if let Some(rest) = after_word(bytes, b"add ") {
-        let Some(((port, ()), rest)) = Then(Port, end).read(rest) else {
-            return Ok(None);
-        };
+    } else if let Some(((port, ()), rest)) = After(b"add ", Then(Port, end)).read(bytes) {
         Ok(Some((LineCommand::Add(port), rest)))
-    } else if let Some(rest) = after_word(bytes, b"release ") {
-        let Some(((k, ()), rest)) = Then(EARLIER, end).read(rest) else {
-            return Ok(None);
-        };
+    } else if let Some(((k, ()), rest)) = After(b"release ", Then(EARLIER, end)).read(bytes) {
         Ok(Some((LineCommand::Release(k as usize), rest)))
-    } else if let Some(rest) = after_word(bytes, b"list ") {
-        let Some(((role, ()), rest)) = Then(RoleName, end).read(rest) else {
-            return Ok(None);
-        };
+    } else if let Some(((role, ()), rest)) = After(b"list ", Then(RoleName, end)).read(bytes) {
         Ok(Some((LineCommand::List(role), rest)))
-    } else if let Some(rest) = after_word(bytes, b"count ") {
-        let Some(((role, ()), rest)) = Then(RoleName, end).read(rest) else {
-            return Ok(None);
-        };
+    } else if let Some(((role, ()), rest)) = After(b"count ", Then(RoleName, end)).read(bytes) {
         Ok(Some((LineCommand::Count(role), rest)))
     } else if let Some(rest) = after_word(bytes, b"nodes") {
         let Some(((), rest)) = end.read(rest) else {

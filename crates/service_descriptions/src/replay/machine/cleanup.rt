@@ -10,17 +10,6 @@ use super::kept::Kept;
 use iox2_dynamic::dynamic_config::{DeregisterNodeState, DynamicConfig, PortCleanupAction};
 use iox2_ids::identifiers::{UniqueNodeId, UniquePortId};
 
-/// The decision on a port, where ports of these values stay.
-fn answer_by_port(kept: &Kept<'_>, port: &UniquePortId) -> PortCleanupAction
-    ensures { result ≡ action_for kept.now (port_value port.now) }
-{
-    if kept.has(port.value()) {
-        PortCleanupAction::SkipPort
-    } else {
-        PortCleanupAction::RemovePort
-    }
-}
-
 /// Removes a dead node, with decisions in order.
 #[inline(always)]
 #[tactic(auto, using(iox2_dynamic::proofs::Callbacks::callbacks))]
@@ -64,6 +53,12 @@ pub(super) fn by_port(
     let mut answer = move |port: UniquePortId| -> PortCleanupAction
         ensures first { result ≡ action_for kept.entry.now (port_value port) }
         ensures same { kept.exit.now ≡ kept.entry.now }
-    { answer_by_port(kept, &port) };
+    {
+        if kept.has(port.value()) {
+            PortCleanupAction::SkipPort
+        } else {
+            PortCleanupAction::RemovePort
+        }
+    };
     service.remove_dead_node_id(dead, &mut answer)
 }

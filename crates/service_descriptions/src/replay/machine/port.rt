@@ -8,7 +8,7 @@ use iox2_dynamic::dynamic_config::{
     ClientDetails, ListenerDetails, NotifierDetails, PortDetails, PublisherDetails, ReaderDetails,
     ServerDetails, SubscriberDetails, WriterDetails,
 };
-use iox2_ids::identifiers::{UniqueId, UniqueNodeId, UniqueReaderId};
+use iox2_ids::identifiers::{UniqueId, UniqueNodeId};
 
 /// The four parts of an id.
 #[derive(Clone, Copy)]
@@ -25,14 +25,6 @@ impl Parts {
         ensures { result ≡ value_of self }
     {
         UniqueId::new(self.process, self.seconds, self.nanoseconds, self.counter)
-    }
-
-    /// The number that they make.
-    pub(crate) fn value(self) -> u128
-        ensures { result ≡ value_of self }
-    {
-        let id: UniqueReaderId = self.id();
-        id.value()
     }
 }
 

@@ -1,9 +1,5 @@
 use Rattle.std.proofs.Common.{ℕ, refl, rules}
-use Rattle.std.proofs.lemmas.List.{map-id}
-use Rattle.line_streams.specs.Spelling.{line_end}
-use Rattle.line_streams.proofs.Words.{no_first, no_second, reads_then}
-use Rattle.service_descriptions.specs.OneWay.{dead_one, node_id_one}
-use Rattle.service_descriptions.specs.Phrases.{dead_phrase, node_id_phrase}
+use Rattle.service_descriptions.proofs.Names.{map-id, line_end, no_first, no_second, reads_then, dead_one, node_id_one, dead_phrase, node_id_phrase}
 use Rattle.service_descriptions.proofs.Lines.{no_line, dead_found, kept_phrase}
 use Rattle.service_descriptions.proofs.Lines.Kind.{DeadLine}
 use Rattle.service_descriptions.proofs.replay.lines.line.dead_before.Goals as goal

@@ -1,6 +1,5 @@
 use Rattle.std.proofs.Common.{[], sym, ◌∙◌, refl}
-use Rattle.std.proofs.lemmas.List.{append-nil}
-use Rattle.service_descriptions.specs.Lines.{line_of}
+use Rattle.service_descriptions.proofs.Names.{append-nil, line_of}
 use Rattle.service_descriptions.proofs.replay.lines.line.read_line.Goals as goal
 
 pub returns-in-None : goal.returns-in-None

@@ -1,6 +1,5 @@
 use Rattle.std.proofs.Common.{◌≡◌, ◌++◌, codes, take}
-use Rattle.std.specs.List.{flat_map}
-use Rattle.service_descriptions.specs.Replies.{id_word}
+use Rattle.service_descriptions.proofs.Names.{flat_map, id_word}
 use Rattle.service_descriptions.proofs.replay.lines.reply_line.append_ids.Given as goal
 
 abbrev pub invariant-loop-item : goal.invariant-loop-item

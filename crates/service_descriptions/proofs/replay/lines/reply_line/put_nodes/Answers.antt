@@ -1,6 +1,5 @@
 use Rattle.std.proofs.Common.{rules, sym}
-use Rattle.iox2_container.specs.Steps.{listed}
-use Rattle.service_descriptions.specs.Replies.{id_word}
+use Rattle.service_descriptions.proofs.Names.{listed, id_word}
 use Rattle.service_descriptions.proofs.Listings.{all_put}
 use Rattle.service_descriptions.proofs.replay.lines.reply_line.put_nodes.Goals as goal
 

@@ -1,8 +1,6 @@
 use Rattle.std.proofs.Common.{rules, subst}
-use Rattle.iox2_dynamic.specs.Steps.{DeadStep}
-use Rattle.service_descriptions.specs.Cleanups.{Cleans}
+use Rattle.service_descriptions.proofs.Names.{DeadStep, Cleans, DeadStep-called}
 use Rattle.service_descriptions.specs.declared.replay.machine.command.Cleanup.TheVariants as cleanups
-use Rattle.iox2_dynamic.proofs.Recoveries.{DeadStep-called}
 use Rattle.service_descriptions.proofs.replay.machine.cleanup.by_order.Goals as goal
 
 pub returns-clause-cleaned : goal.returns-clause-cleaned

@@ -1,6 +1,5 @@
 use Rattle.std.proofs.Common.{sym, subst, Ok}
-use Rattle.iox2_texts.specs.VerifyErrors.{Verifies}
-use Rattle.service_descriptions.specs.Descriptions.{ServesVerify}
+use Rattle.service_descriptions.proofs.Names.{Verifies, ServesVerify}
 use Rattle.service_descriptions.specs.declared.replay.machine.reply.Reply.TheVariants.{Verified}
 use Rattle.service_descriptions.proofs.replay.machine.description.verify.Goals as goal
 

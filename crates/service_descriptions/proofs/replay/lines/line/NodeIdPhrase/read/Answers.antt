@@ -1,7 +1,5 @@
 use Rattle.std.proofs.Common.{◌≡◌, arith, rules, sym, ◌∙◌, ap}
-use Rattle.iox2_ids.specs.Packing.{owner_of}
-use Rattle.service_descriptions.specs.Lines.{value_of}
-use Rattle.service_descriptions.specs.OneWay.{id_one}
+use Rattle.service_descriptions.proofs.Names.{owner_of, value_of, id_one}
 use Rattle.service_descriptions.proofs.replay.lines.line.NodeIdPhrase.read.Goals as goal
 
 pub returns-in_default-new-clause-read : goal.returns-in_default-new-clause-read

@@ -1,5 +1,4 @@
-use Rattle.service_descriptions.specs.OneWay.{three_fit}
-use Rattle.service_descriptions.specs.Phrases.{spelled_of}
+use Rattle.service_descriptions.proofs.Names.{three_fit, spelled_of}
 use Rattle.service_descriptions.proofs.replay.lines.line.PortPhrase.read.Goals as goal
 
 pub returns-in_default-clause-read : goal.returns-in_default-clause-read

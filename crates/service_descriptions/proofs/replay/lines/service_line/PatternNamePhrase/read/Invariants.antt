@@ -1,7 +1,6 @@
 use Rattle.std.proofs.Common.{◌≢◌, ℕ, ◌<◌, List}
-use Rattle.iox2_config.specs.declared.hash.input.PatternKind.{PatternKind}
+use Rattle.service_descriptions.proofs.Names.{PatternKind, pattern_phrase}
 use Rattle.iox2_config.specs.Hashing.{pattern_number}
-use Rattle.service_descriptions.specs.Phrases.{pattern_phrase}
 use Rattle.service_descriptions.proofs.replay.lines.service_line.PatternNamePhrase.read.Given as goal
 
 -- no pattern of a lower number stands at the front

@@ -1,8 +1,5 @@
 use Rattle.std.proofs.Common.{◌≡◌, rules, subst}
-use Rattle.iox2_dynamic.specs.Service.{IsService}
-use Rattle.service_descriptions.specs.Fields.{IsSound, described, session_of}
-use Rattle.service_descriptions.specs.Handles.{handles_in}
-use Rattle.service_descriptions.specs.Steps.{Serves, ServiceStep}
+use Rattle.service_descriptions.proofs.Names.{IsService, IsSound, described, session_of, handles_in, Serves, ServiceStep}
 use Rattle.service_descriptions.proofs.Serving.{after, served, sound_state}
 use Rattle.service_descriptions.proofs.replay.machine.session.Session.serve.Goals as goal
 use Rattle.service_descriptions.proofs.replay.machine.session.Session.serve.Goals.{After-push_reserved, in-Register, in-Deregister, in-Nodes+in_ok-nodes-in-Nodes, in-Add, in-Release, in-List+in_ok-reply-in-List, in-Count, in-Dead, in-Verify, in-Layout, in-Places, in-Compatible}

@@ -1,9 +1,5 @@
 use Rattle.std.proofs.Common.{◌≡◌, None, rules, subst}
-use Rattle.iox2_dynamic.specs.Service.{IsService}
-use Rattle.service_descriptions.specs.Fields.{IsSound, session_of}
-use Rattle.service_descriptions.specs.Handles.{handles_in}
-use Rattle.service_descriptions.specs.LineAnswers.{LineStep, ServesLine}
-use Rattle.service_descriptions.specs.Lines.{command_of}
+use Rattle.service_descriptions.proofs.Names.{IsService, IsSound, session_of, handles_in, LineStep, ServesLine, command_of}
 use Rattle.service_descriptions.proofs.Serving.{after, served_line, sound_state}
 use Rattle.service_descriptions.proofs.replay.machine.session.Session.serve_line.Goals as goal
 use Rattle.service_descriptions.proofs.replay.machine.session.Session.serve_line.Goals.{After-push_reserved, in-Register, in-Deregister, in-Nodes, in-Add, in-Release, in-List, in-Count, in-Dead}
