@@ -217,34 +217,8 @@ configuration_lawful : (base : Config) (k : PatternKind)
     → Lawful (codes "set " ∷ []) [] (line_by_line (HasConfiguration base k))
 unfolding IsDistinct
 configuration_lawful base k =
-    let names = setting_names k in
-    let values = setting_values k in
-    let many = many_lawful (codes "set ") (GivesSetting names (values base.defaults))
-    (AreSettings (values base.defaults)) (values base.defaults) (tt, refl) in
-    record {
-      rest = λ c d r s bytes h g.
-          many.rest (values c.defaults) (values d.defaults) r s bytes h.0 g.0;
-      moves = λ c r bytes h.
-          let m = many.moves (values c.defaults) r bytes h.0 in
-          record {
-            texts = m.texts;
-            lines = m.lines;
-            moved = λ other whole l follows. (m.moved other whole l follows, h.1);
-          };
-      some = (
-        base,
-        (
-          record {
-            each = [];
-            lines = refl;
-            ends = none_begins (codes "set ");
-            make = (tt, refl);
-          },
-          same_base base k,
-        ),
-      );
-      stops = λ left bytes s. s;
-    }
+    many_lawful (codes "set ") (GivesSetting k base.defaults) (AreSettings base k) base
+    (tt, refl, same_base base k)
 
 none_listed : IsListing [] []
 none_listed = (IsPermutation-refl [], λ k d low high. absurd (omega arith))

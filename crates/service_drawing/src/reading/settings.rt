@@ -66,12 +66,12 @@ fn set(
     given: &mut [bool; 32],
     text: &[u8],
 ) -> Result<(), Reason>
-    ensures set { IfOk result (λ done. Sets (setting_names kind) (setting_values kind defaults.old)
-        given.old text.now (setting_values kind defaults.new) given.new) }
+    ensures set { IfOk result (λ done. Sets kind defaults.old given.old text.now
+        defaults.new given.new) }
     ensures others { restored kind defaults.old defaults.new ≡ defaults.old }
     ensures kept { IfErr result (λ reason. defaults.new ≡ defaults.old) }
-    ensures refused { IfErr result (λ reason. IsNotSet (setting_names kind)
-        (setting_values kind defaults.old) given.old text.now reason) }
+    ensures refused { IfErr result (λ reason.
+        IsNotSet kind defaults.old given.old text.now reason) }
 {
     let Some((word, text)) = before_byte(text, b' ') else {
         return Err(Reason::OtherForm);
@@ -119,8 +119,7 @@ pub(super) fn settings_before<'a>(
     ensures { MatchResult result
         (λ rest. HasConfiguration config.old kind config.new rest.now bytes.now)
         (λ expected. StopsAt (HasConfiguration config.old kind) expected.rest.now bytes.now
-        × IsSettingReason (setting_names kind) (setting_values kind config.old.defaults)
-        expected.reason expected.rest.now bytes.now) }
+        × IsSettingReason config.old kind expected.reason expected.rest.now bytes.now) }
 {
     let mut given = [false; 32];
     let mut rest = bytes;
