@@ -1,12 +1,11 @@
 -- Attributes and requirements that were read, and what no further one may be.
-use Rattle.std.proofs.Common.{◌≡◌, ℕ, List, ◌∷◌, ◌++◌, Ok, Err, sym, ◌∙◌, arith, ◌<◌, ◌≤◌, true, false, [], ◌⊎◌, inl, inr, codes, length, refl, ◌+◌, filter_map, length-append}
+use Rattle.std.proofs.Common.{◌≡◌, ℕ, List, ◌∷◌, ◌++◌, Ok, Err, sym, ◌∙◌, arith, ◌≤◌, [], ◌⊎◌, codes, length, refl, ◌+◌, filter_map, length-append}
 use Rattle.iox2_texts.specs.Pair.{Pair}
 use Rattle.iox2_texts.specs.Name.{IsName, MakesName}
 use Rattle.iox2_texts.specs.declared.bounded.SemanticStringError.{SemanticStringError}
 use Rattle.line_streams.specs.OneWay.{before_one}
 use Rattle.line_streams.specs.Spelling.{HasNo}
-use Rattle.line_streams.proofs.Indices.{has_one}
-use Rattle.service_drawing.specs.Lines.{IsKey, IsPair, pair_text, IsLine, GivesPair, AreAttributes, HasAttributes, StopsAt, Requirement, OfPair, OfKey, GivesRequirement, RequiresToo, number_required, RequiresMore, RequiresNoMore, pair_of, key_of, AreRequired, HasRequirements}
+use Rattle.service_drawing.specs.Lines.{IsLine, GivesPair, AreAttributes, HasAttributes, StopsAt, Requirement, OfPair, OfKey, GivesRequirement, RequiresToo, number_required, RequiresMore, RequiresNoMore, pair_of, key_of, AreRequired, HasRequirements}
 use Rattle.std.proofs.lemmas.List.Sorted.{IsPermutation-cons, IsPermutation-to_front, IsPermutation-trans, length_permutation}
 use Rattle.iox2_texts.specs.Attribute.{IsListing}
 use Rattle.service_drawing.proofs.Forms.{ReadMany, one_read, stops_at_most}

@@ -1,5 +1,5 @@
 -- The lines of settings, and the reason for which a line is bad.
-use Rattle.std.proofs.Common.{◌≡◌, ◌≢◌, ℕ, ◌<◌, ◌≤◌, ◌∷◌, ◌++◌, List, Bool, false, length, get_or, ap, Some, None, slice_get, subst, sym, ◌∙◌, arith, zero, suc, replicate, true, [], inl, inr, codes, map, nat_eq, slice_set, refl, length-append}
+use Rattle.std.proofs.Common.{◌≡◌, ◌≢◌, ℕ, ◌<◌, ◌≤◌, ◌∷◌, ◌++◌, List, Bool, false, length, get_or, ap, Some, None, slice_get, subst, sym, ◌∙◌, arith, zero, suc, replicate, true, [], inl, inr, codes, map, nat_eq, slice_set, refl}
 use Rattle.std.proofs.lemmas.Option.{none-some, slice_get_within, slice_get_cases, slice_get-get_or}
 use Rattle.service_drawing.specs.Settings.{HasName, IsSetting, IsNamed, word_of, MayBecome, Assignment, GivesSetting, assigned, AreSettings, Sets, NamesMarked, IsNotSet, value_text, HasConfiguration, restored, setting_names, setting_values}
 use Rattle.service_drawing.proofs.Words.{longer, same_text, line_one, same_pattern}
@@ -10,7 +10,7 @@ use Rattle.std.proofs.lemmas.Cmp.{nat_eq_equiv}
 use Rattle.std.proofs.lemmas.List.{append_cancel_left, map-append}
 use Rattle.std.proofs.lemmas.List.Folds.{list_any-append}
 use Rattle.std.proofs.lemmas.Map.Keys.{IsDistinct-push}
-use Rattle.service_drawing.specs.Lines.{IsLine, StopsAt, AreLines, HasNoLine, UpTo, HasService, IsInternal, IsNoService}
+use Rattle.service_drawing.specs.Lines.{IsLine, StopsAt, HasService, IsInternal, IsNoService}
 use Rattle.service_drawing.specs.declared.reading.cause.Reason.{Reason}
 use Rattle.service_drawing.specs.declared.reading.cause.Reason.TheVariants.{InternalName, UnknownSetting, SetTwice, OtherForm}
 use Rattle.service_drawing.specs.declared.settings.Value.{Value}
@@ -19,7 +19,7 @@ use Rattle.iox2_config.specs.declared.config.Config.{Config}
 use Rattle.iox2_config.specs.declared.config.defaults.Defaults.{Defaults}
 use Rattle.iox2_config.specs.declared.hash.input.PatternKind.{PatternKind}
 use Rattle.service_drawing.specs.Descriptions.{StopsReading, after_settings, BeginsInternal, IsServiceReason, AtSetting, IsUnknown, WasSet, IsSettingReason, AmongSettings, IsReason}
-use Rattle.service_drawing.proofs.Descriptions.{Breaks, broken, same_base, service_same, after_settings_lawful, stops_behind_service}
+use Rattle.service_drawing.proofs.Descriptions.{Breaks, broken, service_same, after_settings_lawful, stops_behind_service}
 
 -- the setting of this number has another name
 pub not_named : (names : List (List ℕ)) (i : ℕ) (word name : List ℕ) → Some name ≡ slice_get names i
@@ -144,7 +144,8 @@ gives_at : (k : PatternKind) (one other : Defaults) (set : Assignment) (text : L
 gives_at k one other set text e g = grind arith
 
 -- nothing is marked
-pub none_marked : (n i : ℕ) (mark : Bool) → slice_get (replicate n false) i ≡ Some mark → mark ≡ false
+pub none_marked : (n i : ℕ) (mark : Bool) → slice_get (replicate n false) i ≡ Some mark
+    → mark ≡ false
 none_marked zero i mark e = cc
 none_marked (suc n) zero mark e = cc
 none_marked (suc n) (suc i) mark e = none_marked n i mark e
@@ -357,18 +358,14 @@ stops_behind_settings base reason k name c left rest mid bytes e h g bad =
     )
 
 -- a setting that was set has a name
-known : (base : Config) (k : PatternKind) (left bytes : List ℕ) → IsUnknown base k left bytes
-    → ¬ WasSet base k left bytes
-known base k left bytes u w =
-    let texts =
-    same_text (codes "set ") w.at.text w.at.rest left w.at.line u.at.text u.at.rest u.at.line in
-    u.none w.index (rw texts at w.setting.named)
-
 unknown_or_set : (base : Config) (left bytes : List ℕ) → AmongSettings (IsUnknown base) left bytes
     → ¬ AmongSettings (WasSet base) left bytes
-unknown_or_set base left bytes u w =
-    known base u.kind left u.at_settings u.holds
-    (of_the_pattern (WasSet base) u.kind u.name left u.at_settings bytes u.service w)
+unknown_or_set base left bytes u other =
+    let w = of_the_pattern (WasSet base) u.kind u.name left u.at_settings bytes u.service other in
+    let at = u.holds.at in
+    let texts =
+    same_text (codes "set ") w.at.text w.at.rest left w.at.line at.text at.rest at.line in
+    u.holds.none w.index (rw texts at w.setting.named)
 
 -- where one reason holds, no other does
 pub one_reason : (base : Config) (one other : Reason) (left bytes : List ℕ)

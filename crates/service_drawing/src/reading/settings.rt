@@ -4,7 +4,7 @@ ghost use Rattle.std.specs.Prelude.{slice_get};
 ghost use Rattle.service_drawing.specs.Lines.{StopsAt};
 ghost use Rattle.service_drawing.specs.Descriptions.{IsSettingReason};
 ghost use Rattle.service_drawing.specs.Settings.{HasConfiguration, HasName, IsDashed, IsNamed, IsNotSet};
-ghost use Rattle.service_drawing.specs.Settings.{IsSetting, Sets, dash_for, restored};
+ghost use Rattle.service_drawing.specs.Settings.{IsSetting, Sets, restored};
 ghost use Rattle.service_drawing.specs.Settings.{setting_names, setting_values};
 
 use super::cause::{Expected, Reason};
@@ -14,23 +14,13 @@ use iox2_config::config::{Config, Defaults};
 use iox2_config::hash::PatternKind;
 use line_streams::before_byte;
 
-/// The byte, or a dash instead of an underscore.
-fn with_dash(byte: u8) -> u8
-    ensures { result ≡ dash_for byte }
-{
-    if byte == b'_' { b'-' } else { byte }
-}
-
 /// Whether the word is this name with dashes instead of underscores.
 fn is_dashed(word: &[u8], name: &str) -> bool
     ensures { IsTrue result ↔ IsDashed word.now name.now }
 {
     let name = name.as_bytes();
     word.len() == name.len()
-        && word
-            .iter()
-            .zip(name)
-            .all(|(byte, own)| *byte == with_dash(*own))
+        && word.iter().zip(name).all(|(byte, own)| *byte == if *own == b'_' { b'-' } else { *own })
 }
 
 /// Whether the word is this name, as the code or as configuration files have it.
