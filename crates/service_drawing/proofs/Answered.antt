@@ -1,5 +1,5 @@
 -- What is answered, and what follows from a status.
-use Rattle.std.proofs.Common.{◌≡◌, ℕ, List, Option, IfSome, Result, Ok, Err, IfOk, OnOk, String, arith}
+use Rattle.std.proofs.Common.{◌≡◌, ℕ, List, Option, Result, Ok, Err, IfOk, OnOk, String, arith}
 use Rattle.std.specs.Io.KnownBytes.{Appends, IsAtEnd}
 use Rattle.std.specs.declared.alloc.Global.{Global}
 use Rattle.std.specs.declared.io.Error.{Error}
@@ -39,13 +39,6 @@ pub handed_on : {A E : Type 0} (Good : A → Type 0) (Bad : E → Type 0) (r : R
     → IsErr r × IsErrAnd r (λ e. e ≡ why) → Bad why → MatchResult r Good Bad
 handed_on Good Bad r why h bad = grind arith
 
--- what is answered to this request
-pub answers_for : (given : Option (List ℕ)) (request : Result Request Fault)
-    (field expected : Request)
-    (end : Result Written Fault) → request ≡ Ok field → field ≡ expected
-    → Answers given (Ok expected) end → Answers given request end
-answers_for given request field expected end e f h = grind arith
-
 -- the line that is reported is that where reading stopped
 pub draws_no_more : (base : Config) (warnings rest bytes : List ℕ) (expected : Expected)
     (fault : Fault) → IsOver base warnings rest bytes
@@ -55,8 +48,3 @@ pub draws_no_more : (base : Config) (warnings rest bytes : List ℕ) (expected :
 draws_no_more base warnings rest bytes expected (BadLine line cause prefix form) over s h =
     grind (arith, one_reason)
 draws_no_more base warnings rest bytes expected _ over s h = absurd h
-
--- what is true of what was read is true of what the reader gave
-pub true_of_given : (P : List ℕ → Type 0) (given : Option (List ℕ)) (items bytes : List ℕ)
-    → IfSome given (λ input. items ≡ input) → bytes ≡ items → P bytes → IfSome given P
-true_of_given P given items bytes e same h = grind arith

@@ -1,15 +1,14 @@
 -- Attributes and requirements that were read, and what no further one may be.
-use Rattle.std.proofs.Common.{◌≡◌, ℕ, List, ◌∷◌, ◌++◌, Ok, Err, sym, ◌∙◌, arith, ◌<◌, ◌≤◌, true, false, [], ◌⊎◌, inl, inr, codes, length, refl, ◌+◌, filter_map, length-append}
+use Rattle.std.proofs.Common.{◌≡◌, ℕ, List, ◌∷◌, ◌++◌, Ok, Err, sym, ◌∙◌, arith, ◌≤◌, [], ◌⊎◌, codes, length, refl, ◌+◌, filter_map, length-append}
 use Rattle.iox2_texts.specs.Pair.{Pair}
 use Rattle.iox2_texts.specs.Name.{IsName, MakesName}
 use Rattle.iox2_texts.specs.declared.bounded.SemanticStringError.{SemanticStringError}
 use Rattle.line_streams.specs.OneWay.{before_one}
 use Rattle.line_streams.specs.Spelling.{HasNo}
-use Rattle.line_streams.proofs.Indices.{has_one}
-use Rattle.service_drawing.specs.Lines.{IsKey, IsPair, pair_text, IsLine, GivesPair, AreAttributes, HasAttributes, StopsAt, Requirement, OfPair, OfKey, GivesRequirement, RequiresToo, number_required, RequiresMore, RequiresNoMore, pair_of, key_of, AreRequired, HasRequirements}
+use Rattle.service_drawing.specs.Lines.{IsLine, GivesPair, AreAttributes, HasAttributes, StopsAt, Requirement, OfPair, OfKey, GivesRequirement, RequiresToo, number_required, RequiresMore, RequiresNoMore, pair_of, key_of, AreRequired, HasRequirements}
 use Rattle.std.proofs.lemmas.List.Sorted.{IsPermutation-cons, IsPermutation-to_front, IsPermutation-trans, length_permutation}
 use Rattle.iox2_texts.specs.Attribute.{IsListing}
-use Rattle.service_drawing.proofs.Forms.{ReadMany, one_read, many_stops, longer_by_one, no_key}
+use Rattle.service_drawing.proofs.Forms.{ReadMany, one_read, stops_at_most}
 use Rattle.std.proofs.lemmas.List.{append-nil}
 use Rattle.std.proofs.lemmas.List.Elements.{filter_map-append}
 use Rattle.iox2_texts.specs.Verify.{Requirements}
@@ -21,17 +20,11 @@ no_name_of n bytes why h legal = grind arith
 
 -- a text whose key or value is refused
 pub no_pair_of : (text key value : List ℕ) → HasNo 32 key → text ≡ key ++ 32 ∷ value
-    → ¬ (IsName 64 key × IsName 256 value) → (pair : Pair) → IsPair pair
-    → ¬ (text ≡ pair_text pair)
-no_pair_of text key value word spelled bad pair is other =
+    → ¬ (IsName 64 key × IsName 256 value) → (pair : Pair) → ¬ GivesPair pair text
+no_pair_of text key value word spelled bad pair (is, other) =
     let same = (before_one 32).same (key, value) (pair.key, pair.value) word is.key.word
     (sym spelled ∙ other) in
     bad (rw (same.0, same.1) (is.key.name, is.value))
-
--- a text with a space is no key
-pub no_key_in : (text word rest : List ℕ) → text ≡ word ++ 32 ∷ rest → (key : List ℕ) → IsKey key
-    → ¬ (text ≡ key)
-no_key_in text word rest e key is same = has_one 32 word rest (rw (sym same ∙ e) at is.word)
 
 abbrev of : List ℕ → List ℕ → Pair
 of k v = record { key = k; value = v }
@@ -39,7 +32,7 @@ of k v = record { key = k; value = v }
 -- the pair that a text spells
 pub found_pair : (text key value k v : List ℕ) → MakesName 64 key (Ok k)
     → MakesName 256 value (Ok v) → HasNo 32 key → text ≡ key ++ 32 ∷ value
-    → IsPair (of k v) × (text ≡ pair_text (of k v))
+    → GivesPair (of k v) text
 found_pair text key value k v first second word spelled = grind arith
 
 -- what was read so far
@@ -56,34 +49,14 @@ listed_more pairs old new pair before added = (
   added.1,
 )
 
--- one more was read
-pub one_more_line : (old new : List Pair) (pair : Pair) (at next bytes text : List ℕ)
-    → Reading old at bytes → IsLine (codes "attribute " ++ text) next at → IsPair pair
-    → text ≡ pair_text pair → IsListing (pair ∷ old) new → length new ≤ 16
-    → Reading new next bytes
-one_more_line old new pair at next bytes text r l legal spelled added few =
-    let all = listed_more r.each old new pair r.make.1 added in
-    one_read (codes "attribute ") GivesPair AreAttributes old new at next bytes text pair r l
-    (record { legal = legal; spelled = spelled })
-    (omega (arith, length_permutation (r.each ++ pair ∷ []) new all.0, few), all)
-
 -- the next line is one too many, or gives no pair
 pub stops_at_attribute : (set : List Pair) (at bytes text tail : List ℕ)
     → Reading set at bytes → IsLine (codes "attribute " ++ text) tail at
-    → (16 ≤ length set) ⊎ ((pair : Pair) → IsPair pair → ¬ (text ≡ pair_text pair))
+    → (16 ≤ length set) ⊎ ((pair : Pair) → ¬ GivesPair pair text)
     → StopsAt HasAttributes at bytes
 stops_at_attribute set at bytes text tail r l bad =
-    many_stops (codes "attribute ") GivesPair AreAttributes (λ s. s) no_key (λ x y t p q. refl) set
-    at bytes text tail r l (λ ys other made one. elim bad [
-      | inl full ↦
-          let longer = longer_by_one GivesPair no_key r.each ys text one in
-          omega (arith, full, length_permutation r.each set r.make.1.0, made.0)
-      | inr none ↦ none one.one one.spelled.legal one.spelled.spelled
-    ])
-
--- where there is no room, there are 16
-pub many : (n : ℕ) → (n < 16 → false ≡ true) → 16 ≤ n
-many n h = grind arith
+    stops_at_most (codes "attribute ") GivesPair AreAttributes 16 (λ xs x made. made.0) set at bytes
+    text tail r l (rw (length_permutation r.each set r.make.1.0) at bad)
 
 -- what was read so far
 abbrev pub Requiring : Requirements → List ℕ → List ℕ → Type 0
@@ -126,10 +99,5 @@ pub stops_at_required : (required : Requirements) (at bytes text tail : List ℕ
     → Requiring required at bytes → IsLine (codes "require" ++ text) tail at
     → RequiresNoMore required text → StopsAt HasRequirements at bytes
 stops_at_required required at bytes text tail r l bad =
-    many_stops (codes "require") GivesRequirement AreRequired (λ s. s) no_key
-    (λ x y t p q. refl) required at bytes text tail r l (λ ys other made one. elim bad [
-      | inl full ↦
-          let longer = longer_by_one GivesRequirement no_key r.each ys text one in
-          omega (arith, full, as_many r.each required r.make, made.0)
-      | inr none ↦ none one.one one.spelled
-    ])
+    stops_at_most (codes "require") GivesRequirement AreRequired 16 (λ xs x made. made.0) required
+    at bytes text tail r l (rw (sym (as_many r.each required r.make)) at bad)

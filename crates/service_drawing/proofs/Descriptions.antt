@@ -8,7 +8,7 @@ use Rattle.iox2_config.specs.declared.config.Config.{Config}
 use Rattle.iox2_config.specs.declared.hash.input.PatternKind.{PatternKind}
 use Rattle.service_drawing.specs.Descriptions.{StopsReading, after_settings, after_service}
 use Rattle.service_drawing.specs.Lines.{IsLine, HasSameLine, Whole, Stops, Form, line_by_line, HasService, HasAttributes, HasRequirements, AreAttributes, AreRequired, GivesPair, GivesRequirement, is_plain, IsPlain, HasNoLine, Begins, no_lines, IsDescribed, IsFixed, type_text, payload_text, alignments_text, type_line, payload_line, elements_line, HasOpener, opener_line, message_of, message, exchange}
-use Rattle.service_drawing.specs.Settings.{HasConfiguration, GivesSetting, AreSettings, restored, setting_names, setting_values}
+use Rattle.service_drawing.specs.Settings.{HasConfiguration, GivesSetting, AreSettings, restored}
 use Rattle.service_drawing.proofs.Forms.{Lawful, same_back, line_like, lines_before, none_of_nothing, none_begins, sequence_lawful, stops_as, many_lawful, IsPart, none_like, stops_at_once, line_lawful, then_lawful, made_lawful}
 use Rattle.service_drawing.proofs.Words.{same_pattern, line_one, same_variant}
 use lib.Count.{ones}
@@ -217,34 +217,8 @@ configuration_lawful : (base : Config) (k : PatternKind)
     → Lawful (codes "set " ∷ []) [] (line_by_line (HasConfiguration base k))
 unfolding IsDistinct
 configuration_lawful base k =
-    let names = setting_names k in
-    let values = setting_values k in
-    let many = many_lawful (codes "set ") (GivesSetting names (values base.defaults))
-    (AreSettings (values base.defaults)) (values base.defaults) (tt, refl) in
-    record {
-      rest = λ c d r s bytes h g.
-          many.rest (values c.defaults) (values d.defaults) r s bytes h.0 g.0;
-      moves = λ c r bytes h.
-          let m = many.moves (values c.defaults) r bytes h.0 in
-          record {
-            texts = m.texts;
-            lines = m.lines;
-            moved = λ other whole l follows. (m.moved other whole l follows, h.1);
-          };
-      some = (
-        base,
-        (
-          record {
-            each = [];
-            lines = refl;
-            ends = none_begins (codes "set ");
-            make = (tt, refl);
-          },
-          same_base base k,
-        ),
-      );
-      stops = λ left bytes s. s;
-    }
+    many_lawful (codes "set ") (GivesSetting k base.defaults) (AreSettings base k) base
+    (tt, refl, same_base base k)
 
 none_listed : IsListing [] []
 none_listed = (IsPermutation-refl [], λ k d low high. absurd (omega arith))

@@ -1,5 +1,5 @@
 -- Forms of lines, and lines of one kind: what is true of each, and where reading stops.
-use Rattle.std.proofs.Common.{◌≡◌, ℕ, List, [], ◌∷◌, ◌++◌, ◌⊎◌, inl, inr, refl, sym, ap, subst, append_assoc, length, length-append, arith, ◌<◌, map, ◌∙◌}
+use Rattle.std.proofs.Common.{◌≡◌, ℕ, List, [], ◌∷◌, ◌++◌, ◌⊎◌, inl, inr, refl, sym, ap, subst, append_assoc, length, length-append, arith, ◌<◌, ◌≤◌, map, ◌∙◌}
 use Rattle.service_drawing.specs.Lines.{IsLine, IsPlain, AreLines, HasNoLine, HasSameLine, Begins, Whole, Stops, StopsAt, Form, HasLine, at_once, line, then, sequence, made, HasMany, UpTo, line_by_line}
 use Rattle.service_drawing.proofs.Words.{line_one, same_text}
 use Rattle.std.proofs.lemmas.List.{length-map}
@@ -308,20 +308,46 @@ more_lines begin Spells [] x text at next bytes e l spelled = (next, text, rw e 
 more_lines begin Spells (y ∷ xs) x text at next bytes u l spelled =
     (u.0, u.1, u.2, u.3, more_lines begin Spells xs x text at next u.0 u.4 l spelled)
 
+-- the lines up to an offset, as they would stand before other bytes too
+pub up_lines : {A : Type 0} (begin : List ℕ) (Spells : A → List ℕ → Type 0) (xs : List A)
+    (at bytes : List ℕ) → UpTo begin Spells xs at bytes
+    → (texts : List (List ℕ)) × AreLines texts at bytes
+    × ((other whole : List ℕ) → AreLines texts other whole → UpTo begin Spells xs other whole)
+up_lines begin Spells [] at bytes e = ([], sym e, λ other whole l. sym l)
+up_lines begin Spells (x ∷ xs) at bytes u =
+    let more = up_lines begin Spells xs at u.0 u.4 in (
+      (begin ++ u.1) ∷ more.0,
+      (u.0, u.2, more.1),
+      λ other whole l. (l.0, u.1, l.1, u.3, more.2 other l.0 l.2),
+    )
+
+pub line_within : (text rest bytes : List ℕ) → IsLine text rest bytes → length rest < length bytes
+line_within text rest bytes l = grind (arith, length-append, l.spelled)
+
+pub texts_within : (texts : List (List ℕ)) (at bytes : List ℕ) → AreLines texts at bytes
+    → length at ≤ length bytes
+texts_within [] at bytes e = grind arith
+texts_within (t ∷ ts) at bytes l = grind (arith, line_within, texts_within ts at l.0 l.2)
+
+up_within : {A : Type 0} (begin : List ℕ) (Spells : A → List ℕ → Type 0) (xs : List A)
+    (at bytes : List ℕ) → UpTo begin Spells xs at bytes → length at ≤ length bytes
+up_within begin Spells xs at bytes u = grind (arith, up_lines, texts_within)
+
 -- two lists that give a text after the same lines: the second goes on with one that gives it, and
 -- both give the same keys before
 pub record GoesOn {A K : Type 0} (Spells : A → List ℕ → Type 0) (key : A → K) (xs ys : List A)
-    (text : List ℕ) : Type 0 where
+    (text rest at : List ℕ) : Type 0 where
   pub one : A
   pub more : List A
   pub spelled : Spells one text
   pub keys : map key ys ≡ map key xs ++ key one ∷ map key more
+  pub within : length rest < length at
 
-goes_on : {A K : Type 0} (begin : List ℕ) (Spells : A → List ℕ → Type 0) (key : A → K)
+pub goes_on : {A K : Type 0} (begin : List ℕ) (Spells : A → List ℕ → Type 0) (key : A → K)
     → ((x y : A) (t : List ℕ) → Spells x t → Spells y t → key x ≡ key y) → (xs ys : List A)
     (at rest bytes text tail : List ℕ) → UpTo begin Spells xs at bytes
     → IsLine (begin ++ text) tail at → UpTo begin Spells ys rest bytes → HasNoLine begin rest
-    → GoesOn Spells key xs ys text
+    → GoesOn Spells key xs ys text rest at
 goes_on begin Spells key same [] [] at rest bytes text tail e l h none =
     absurd (none text tail (rw (sym e ∙ h) at l))
 goes_on begin Spells key same [] (y ∷ ys) at rest bytes text tail e l h none = record {
@@ -329,6 +355,12 @@ goes_on begin Spells key same [] (y ∷ ys) at rest bytes text tail e l h none =
   more = ys;
   spelled = rw (same_text begin h.1 h.0 bytes h.2 text tail (rw e l)) at h.3;
   keys = refl;
+  within = omega (
+    arith,
+    ap length e,
+    line_within (begin ++ h.1) h.0 bytes h.2,
+    up_within begin Spells ys rest h.0 h.4,
+  );
 }
 goes_on begin Spells key same (x ∷ xs) [] at rest bytes text tail u l h none =
     absurd (none u.1 u.0 (rw h at u.2))
@@ -343,40 +375,31 @@ goes_on begin Spells key same (x ∷ xs) (y ∷ ys) at rest bytes text tail u l 
       more = more.more;
       spelled = more.spelled;
       keys = rw (keys, more.keys) refl;
+      within = more.within;
     }
-
--- how many there are where one goes on
-pub longer_by_one : {A K : Type 0} (Spells : A → List ℕ → Type 0) (key : A → K) (xs ys : List A)
-    (text : List ℕ) → GoesOn Spells key xs ys text → length xs < length ys
-longer_by_one Spells key xs ys text g = grind (arith, length-map, length-append, g.keys)
 
 -- the key of lines that are only counted
 abbrev pub no_key : {A : Type 0} → A → Unit {0}
 no_key x = tt
 
--- one rest follows the lines
-lines_rest : {A : Type 0} (begin : List ℕ) (Spells : A → List ℕ → Type 0) (xs ys : List A)
-    (r s bytes : List ℕ) → UpTo begin Spells xs r bytes → HasNoLine begin r
-    → UpTo begin Spells ys s bytes → HasNoLine begin s → r ≡ s
-lines_rest begin Spells [] [] r s bytes h p k q = sym h ∙ k
-lines_rest begin Spells [] (y ∷ ys) r s bytes h p k q = absurd (p k.1 k.0 (rw h at k.2))
-lines_rest begin Spells (x ∷ xs) [] r s bytes h p k q = absurd (q h.1 h.0 (rw k at h.2))
-lines_rest begin Spells (x ∷ xs) (y ∷ ys) r s bytes h p k q =
-    let mids = (line_one _ _ k.0 h.0 bytes k.2 h.2).1 in
-    lines_rest begin Spells xs ys r s h.0 h.4 p (rw mids at k.4) q
-
--- the lines up to an offset, as they would stand before other bytes too
-pub up_lines : {A : Type 0} (begin : List ℕ) (Spells : A → List ℕ → Type 0) (xs : List A)
-    (at bytes : List ℕ) → UpTo begin Spells xs at bytes
-    → (texts : List (List ℕ)) × AreLines texts at bytes
-    × ((other whole : List ℕ) → AreLines texts other whole → UpTo begin Spells xs other whole)
-up_lines begin Spells [] at bytes e = ([], sym e, λ other whole l. sym l)
-up_lines begin Spells (x ∷ xs) at bytes u =
-    let more = up_lines begin Spells xs at u.0 u.4 in (
-      (begin ++ u.1) ∷ more.0,
-      (u.0, u.2, more.1),
-      λ other whole l. (l.0, u.1, l.1, u.3, more.2 other l.0 l.2),
-    )
+-- where neither list goes on before the end of the other, both end at once, with the same keys
+pub same_lines : {A K : Type 0} (begin : List ℕ) (Spells : A → List ℕ → Type 0) (key : A → K)
+    → ((x y : A) (t : List ℕ) → Spells x t → Spells y t → key x ≡ key y) → (xs ys : List A)
+    (r s bytes : List ℕ) → UpTo begin Spells xs r bytes → UpTo begin Spells ys s bytes
+    → ((t m : List ℕ) → IsLine (begin ++ t) m r → length m < length s)
+    → ((t m : List ℕ) → IsLine (begin ++ t) m s → length m < length r)
+    → (r ≡ s) × (map key xs ≡ map key ys)
+same_lines begin Spells key same [] [] r s bytes u v p q = (sym u ∙ v, refl)
+same_lines begin Spells key same [] (y ∷ ys) r s bytes u v p q =
+    absurd (omega (arith, p v.1 v.0 (rw u at v.2), up_within begin Spells ys s v.0 v.4))
+same_lines begin Spells key same (x ∷ xs) [] r s bytes u v p q =
+    absurd (omega (arith, q u.1 u.0 (rw v at u.2), up_within begin Spells xs r u.0 u.4))
+same_lines begin Spells key same (x ∷ xs) (y ∷ ys) r s bytes u v p q =
+    let texts = same_text begin u.1 u.0 bytes u.2 v.1 v.0 v.2 in
+    let mids = (line_one _ _ v.0 u.0 bytes v.2 u.2).1 in
+    let keys = same x y v.1 (rw texts at u.3) v.3 in
+    let more = same_lines begin Spells key same xs ys r s u.0 u.4 (rw mids at v.4) p q in
+    (more.0, rw (keys, more.1) refl)
 
 -- all lines of a kind, of which a value is made
 pub many_lawful : {A B : Type 0} (begin : List ℕ) (Spells : A → List ℕ → Type 0)
@@ -384,7 +407,8 @@ pub many_lawful : {A B : Type 0} (begin : List ℕ) (Spells : A → List ℕ →
     → Lawful (begin ∷ []) [] (line_by_line (HasMany begin Spells Make))
 many_lawful begin Spells Make x none = record {
   rest = λ x y r s bytes h k.
-      lines_rest begin Spells h.each k.each r s bytes h.lines h.ends k.lines k.ends;
+      (same_lines begin Spells no_key (λ x y t p q. refl) h.each k.each r s bytes h.lines k.lines
+      (λ t m l. absurd (h.ends t m l)) (λ t m l. absurd (k.ends t m l))).0;
   moves = λ y rest bytes h.
       let lines = up_lines begin Spells h.each rest bytes h.lines in
       record {
@@ -430,14 +454,15 @@ pub all_read : {A B : Type 0} (begin : List ℕ) (Spells : A → List ℕ → Ty
 all_read begin Spells Make x at bytes r none = search
 
 -- where no value is made of lines that go on with the next one, they stop
-pub many_stops : {A B K S : Type 0} (begin : List ℕ) (Spells : A → List ℕ → Type 0)
-    (Make : List A → B → Type 0) (view : S → B) (key : A → K)
+pub many_stops : {A B K : Type 0} (begin : List ℕ) (Spells : A → List ℕ → Type 0)
+    (Make : List A → B → Type 0) (key : A → K)
     → ((x y : A) (t : List ℕ) → Spells x t → Spells y t → key x ≡ key y)
-    → (s : S) (at bytes text tail : List ℕ) (r : ReadMany begin Spells Make (view s) at bytes)
+    → (x : B) (at bytes text tail : List ℕ) (r : ReadMany begin Spells Make x at bytes)
     → IsLine (begin ++ text) tail at
-    → ((ys : List A) (y : B) → Make ys y → GoesOn Spells key r.each ys text → ⊥)
-    → StopsAt (λ (s : S). HasMany begin Spells Make (view s)) at bytes
-many_stops begin Spells Make view key same s at bytes text tail r l bad =
+    → ((ys : List A) (y : B) (rest other : List ℕ) → Make ys y
+    → GoesOn Spells key r.each ys text rest other → ⊥)
+    → StopsAt (HasMany begin Spells Make) at bytes
+many_stops begin Spells Make key same x at bytes text tail r l bad =
     let lines = up_lines begin Spells r.each at bytes r.lines in
     let before = lines_before lines.0 at bytes lines.1 in
     record {
@@ -447,7 +472,7 @@ many_stops begin Spells Make view key same s at bytes text tail r l bad =
       example = before.0 ++ [];
       goes_on = before.2 [];
       begun = (
-        s,
+        x,
         record {
           each = r.each;
           lines = lines.2 [] (before.0 ++ []) (before.2 []);
@@ -457,7 +482,21 @@ many_stops begin Spells Make view key same s at bytes text tail r l bad =
       );
       stops = λ other whole k like good.
           let next = line_like at other (begin ++ text) tail like l in
-          bad good.2.each (view good.0) good.2.make
+          bad good.2.each good.0 good.1 other good.2.make
           (goes_on begin Spells key same r.each good.2.each other good.1 whole text next.0
           (lines.2 other whole k) next.1 good.2.lines good.2.ends);
     }
+
+-- lines of which at most so many make a value stop where the next one is one too many, or gives
+-- nothing
+pub stops_at_most : {A B : Type 0} (begin : List ℕ) (Spells : A → List ℕ → Type 0)
+    (Make : List A → B → Type 0) (most : ℕ) → ((xs : List A) (x : B) → Make xs x → length xs ≤ most)
+    → (x : B) (at bytes text tail : List ℕ) (r : ReadMany begin Spells Make x at bytes)
+    → IsLine (begin ++ text) tail at → (most ≤ length r.each) ⊎ ((a : A) → ¬ Spells a text)
+    → StopsAt (HasMany begin Spells Make) at bytes
+stops_at_most begin Spells Make most few x at bytes text tail r l bad =
+    many_stops begin Spells Make no_key (λ x y t p q. refl) x at bytes text tail r l
+    (λ ys y rest other made next. elim bad [
+      | inl full ↦ grind (arith, length-map, length-append, next.keys, few ys y made)
+      | inr none ↦ none next.one next.spelled
+    ])

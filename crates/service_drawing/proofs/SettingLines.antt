@@ -1,5 +1,5 @@
 -- The lines of settings, and the reason for which a line is bad.
-use Rattle.std.proofs.Common.{◌≡◌, ◌≢◌, ℕ, ◌<◌, ◌≤◌, ◌∷◌, ◌++◌, List, Bool, false, length, get_or, ap, Some, None, slice_get, subst, sym, ◌∙◌, arith, zero, suc, replicate, true, [], inl, inr, codes, map, nat_eq, slice_set, refl, length-append}
+use Rattle.std.proofs.Common.{◌≡◌, ◌≢◌, ℕ, ◌<◌, ◌≤◌, ◌∷◌, ◌++◌, List, Bool, false, length, get_or, ap, Some, None, slice_get, subst, sym, ◌∙◌, arith, zero, suc, replicate, true, [], inl, inr, codes, map, nat_eq, slice_set, refl}
 use Rattle.std.proofs.lemmas.Option.{none-some, slice_get_within, slice_get_cases, slice_get-get_or}
 use Rattle.service_drawing.specs.Settings.{HasName, IsSetting, IsNamed, word_of, MayBecome, Assignment, GivesSetting, assigned, AreSettings, Sets, NamesMarked, IsNotSet, value_text, HasConfiguration, restored, setting_names, setting_values}
 use Rattle.service_drawing.proofs.Words.{longer, same_text, line_one, same_pattern}
@@ -10,11 +10,11 @@ use Rattle.std.proofs.lemmas.Cmp.{nat_eq_equiv}
 use Rattle.std.proofs.lemmas.List.{append_cancel_left, map-append}
 use Rattle.std.proofs.lemmas.List.Folds.{list_any-append}
 use Rattle.std.proofs.lemmas.Map.Keys.{IsDistinct-push}
-use Rattle.service_drawing.specs.Lines.{IsLine, StopsAt, AreLines, HasNoLine, UpTo, HasService, IsInternal, IsNoService}
+use Rattle.service_drawing.specs.Lines.{IsLine, StopsAt, HasService, IsInternal, IsNoService}
 use Rattle.service_drawing.specs.declared.reading.cause.Reason.{Reason}
 use Rattle.service_drawing.specs.declared.reading.cause.Reason.TheVariants.{InternalName, UnknownSetting, SetTwice, OtherForm}
 use Rattle.service_drawing.specs.declared.settings.Value.{Value}
-use Rattle.service_drawing.proofs.Forms.{ReadMany, one_read, many_stops, GoesOn, stops_as, up_lines}
+use Rattle.service_drawing.proofs.Forms.{ReadMany, one_read, many_stops, GoesOn, goes_on, no_key, same_lines, line_within, texts_within}
 use Rattle.iox2_config.specs.declared.config.Config.{Config}
 use Rattle.iox2_config.specs.declared.config.defaults.Defaults.{Defaults}
 use Rattle.iox2_config.specs.declared.hash.input.PatternKind.{PatternKind}
@@ -59,38 +59,37 @@ pub one_setting : (names : List (List ℕ)) (i j : ℕ) (word : List ℕ) → Is
 one_setting names i j word p q = grind arith
 
 -- a text sets one setting
-pub same_setting : (names : List (List ℕ)) (values : List Value) (x y : Assignment) (t : List ℕ)
-    → GivesSetting names values x t → GivesSetting names values y t → x.index ≡ y.index
-same_setting names values x y t p q =
-    one_setting names x.index y.index (word_of t) p.setting q.setting
+pub same_setting : (k : PatternKind) (d : Defaults) (x y : Assignment) (t : List ℕ)
+    → GivesSetting k d x t → GivesSetting k d y t → x.index ≡ y.index
+same_setting k d x y t p q =
+    one_setting (setting_names k) x.index y.index (word_of t) p.setting q.setting
 
 -- a text without a space sets nothing
-pub no_value_follows : (names : List (List ℕ)) (values : List Value) (text : List ℕ)
-    → word_of text ≡ text → (set : Assignment) → ¬ GivesSetting names values set text
-no_value_follows names values text e set g =
+pub no_value_follows : (k : PatternKind) (d : Defaults) (text : List ℕ) → word_of text ≡ text
+    → (set : Assignment) → ¬ GivesSetting k d set text
+no_value_follows k d text e set g =
     longer (word_of text) (value_text set.value) 32 (e ∙ g.spelled)
 
 -- a value that the setting may not have
-pub not_a_value : (names : List (List ℕ)) (values : List Value) (index : ℕ) (old : Value)
-    (text rest : List ℕ) → IsSetting names index (word_of text) → slice_get values index ≡ Some old
-    → text ≡ word_of text ++ 32 ∷ rest
+pub not_a_value : (k : PatternKind) (d : Defaults) (index : ℕ) (old : Value)
+    (text rest : List ℕ) → IsSetting (setting_names k) index (word_of text)
+    → slice_get (setting_values k d) index ≡ Some old → text ≡ word_of text ++ 32 ∷ rest
     → ((value : Value) → MayBecome old value → ¬ (rest ≡ value_text value)) → (set : Assignment)
-    → ¬ GivesSetting names values set text
-not_a_value names values index old text rest named there e bad set g =
+    → ¬ GivesSetting k d set text
+not_a_value k d index old text rest named there e bad set g =
     let number : set.index ≡ index =
-    one_setting names set.index index (word_of text) g.setting named in
+    one_setting (setting_names k) set.index index (word_of text) g.setting named in
     let same : Some g.old ≡ Some old =
-    sym g.stands ∙ ap (slice_get values) number ∙ there in
+    sym g.stands ∙ ap (slice_get (setting_values k d)) number ∙ there in
     let kind : g.old ≡ old = cc in
     let spelled : 32 ∷ rest ≡ 32 ∷ value_text set.value =
     append_cancel_left (word_of text) (32 ∷ rest) (32 ∷ value_text set.value) (sym e ∙ g.spelled) in
     bad set.value (subst (λ old. MayBecome old set.value) kind g.legal) cc
 
 -- what was read so far: each number is marked that was set
-pub record Setting (names : List (List ℕ)) (defaults values : List Value) (given : List Bool)
+pub record Setting (base : Config) (k : PatternKind) (c : Config) (given : List Bool)
     (at bytes : List ℕ) : Type 0 where
-  pub read : ReadMany (codes "set ") (GivesSetting names defaults) (AreSettings defaults) values at
-      bytes
+  pub read : ReadMany (codes "set ") (GivesSetting k base.defaults) (AreSettings base k) c at bytes
   pub marks : (i : ℕ) (mark : Bool) → slice_get given i ≡ Some mark
       → mark ≡ list_any (nat_eq i) (numbers read.each)
 
@@ -139,24 +138,17 @@ earlier_differ (x ∷ xs) ys y d =
     rw apart (earlier_differ xs ys y d.1)
 
 -- a text that gives a setting gives it too where other settings differ
-gives_at : (names : List (List ℕ)) (one other : List Value) (set : Assignment) (text : List ℕ)
-    → slice_get one set.index ≡ slice_get other set.index → GivesSetting names one set text
-    → GivesSetting names other set text
-gives_at names one other set text e g = grind arith
+gives_at : (k : PatternKind) (one other : Defaults) (set : Assignment) (text : List ℕ)
+    → slice_get (setting_values k one) set.index ≡ slice_get (setting_values k other) set.index
+    → GivesSetting k one set text → GivesSetting k other set text
+gives_at k one other set text e g = grind arith
 
-none_marked : (n i : ℕ) (mark : Bool) → slice_get (replicate n false) i ≡ Some mark → mark ≡ false
+-- nothing is marked
+pub none_marked : (n i : ℕ) (mark : Bool) → slice_get (replicate n false) i ≡ Some mark
+    → mark ≡ false
 none_marked zero i mark e = cc
 none_marked (suc n) zero mark e = cc
 none_marked (suc n) (suc i) mark e = none_marked n i mark e
-
--- none was read
-pub none_set : (names : List (List ℕ)) (defaults : List Value) (n : ℕ) (bytes : List ℕ)
-    → Setting names defaults defaults (replicate n false) bytes bytes
-unfolding IsDistinct
-none_set names defaults n bytes = record {
-  read = record { each = []; lines = refl; make = (tt, refl) };
-  marks = none_marked n;
-}
 
 mark_more : (given : List Bool) (xs : List ℕ) (y : ℕ)
     → ((i : ℕ) (mark : Bool) → slice_get given i ≡ Some mark → mark ≡ list_any (nat_eq i) xs)
@@ -166,73 +158,8 @@ mark_more given xs y marks i mark e =
     rw (list_any-append (nat_eq i) xs (y ∷ []))
     (grind (arith, set_here, set_other, eqb-true, eqb-false, or-true, or-false))
 
--- one more was read
-pub one_more_setting : (names : List (List ℕ)) (defaults old new : List Value)
-    (given marked : List Bool) (at next bytes text : List ℕ)
-    → Setting names defaults old given at bytes → IsLine (codes "set " ++ text) next at
-    → Sets names old given text new marked → Setting names defaults new marked next bytes
-one_more_setting names defaults old new given marked at next bytes text r l s =
-    let sets = r.read.each in
-    let made = r.read.make.1 in
-    let fresh = sym (r.marks s.set.index false s.first) in
-    let kept_there = kept defaults sets s.set.index fresh in
-    let same : slice_get old s.set.index ≡ slice_get defaults s.set.index = cc in
-    let long = map-append (λ (set : Assignment). set.index) sets (s.set ∷ []) in
-    let more = assigned_more defaults sets s.set in
-    record {
-      read = one_read (codes "set ") (GivesSetting names defaults) (AreSettings defaults) old new at
-          next bytes text s.set r.read l (gives_at names old defaults s.set text same s.gives) (
-            rw long (IsDistinct-push nat_eq_equiv (numbers sets) s.set.index r.read.make.0 fresh),
-            cc s.changed,
-          );
-      marks = rw (long, s.noted) (mark_more given (numbers sets) s.set.index r.marks);
-    }
-
--- the next line sets nothing
-not_set : (names : List (List ℕ)) (defaults values : List Value) (given : List Bool)
-    (reason : Reason) (at bytes text : List ℕ) (r : Setting names defaults values given at bytes)
-    → IsNotSet names values given text reason → (sets : List Assignment) (other : List Value)
-    → AreSettings defaults sets other
-    → GoesOn (GivesSetting names defaults) (λ set. set.index) r.read.each sets text → ⊥
-not_set names defaults values given reason at bytes text r bad sets other made next = go reason bad
-  where
-    same_value : NamesMarked names given text false
-        → slice_get defaults next.one.index ≡ slice_get values next.one.index
-    same_value m =
-        let same =
-        one_setting names m.index next.one.index (word_of text) m.setting next.spelled.setting in
-        let fresh = sym (rw same at (r.marks m.index false m.marked)) in
-        rw (r.read.make.1, kept defaults r.read.each next.one.index fresh) refl
-
-    go : (why : Reason) → ¬ IsNotSet names values given text why
-    go InternalName b = b
-    go UnknownSetting b = b.1 next.one.index next.spelled.setting.named
-    go SetTwice b =
-        let m = b.1 in
-        let same : m.index ≡ next.one.index =
-        one_setting names m.index next.one.index (word_of text) m.setting next.spelled.setting in
-        let once : IsDistinct nat_eq (numbers r.read.each ++ next.one.index ∷ numbers next.more) =
-        subst (IsDistinct nat_eq) next.keys made.0 in
-        let fresh =
-        earlier_differ (numbers r.read.each) (numbers next.more) next.one.index once in
-        let marked = r.marks m.index true m.marked in
-        cc
-    go OtherForm b =
-        elim b.0 [
-          | inl none ↦ no_value_follows names defaults text none next.one next.spelled
-          | inr marked ↦
-              let same = same_value marked in
-              b.1 next.one (gives_at names defaults values next.one text same next.spelled)
-        ]
-
--- settings of this pattern instead of others
-taken : (k : PatternKind) (base d : Defaults)
-    → (setting_values k (restored k d base) ≡ setting_values k d)
-    × (restored k base (restored k d base) ≡ base)
-taken k base d = grind arith
-
 -- other settings are as they were where one more of this pattern is set
-pub still_restored : (k : PatternKind) (base c : Config) (d : Defaults)
+still_restored : (k : PatternKind) (base c : Config) (d : Defaults)
     → record c { defaults = restored k base.defaults c.defaults } ≡ base
     → restored k c.defaults d ≡ c.defaults
     → record c { defaults = restored k base.defaults d } ≡ base
@@ -242,116 +169,113 @@ still_restored k base c d h e = grind arith
 pub restored_same : (k : PatternKind) (d : Defaults) → restored k d d ≡ d
 restored_same k d = grind arith
 
--- reading stops at a line that sets nothing
-pub stops_at_setting : (base : Config) (k : PatternKind) (c : Config) (given : List Bool)
-    (reason : Reason) (at bytes text tail : List ℕ)
-    → Setting (setting_names k) (setting_values k base.defaults) (setting_values k c.defaults)
-    given at bytes
-    → IsLine (codes "set " ++ text) tail at
-    → IsNotSet (setting_names k) (setting_values k c.defaults) given text reason
-    → StopsAt (HasConfiguration base k) at bytes
-stops_at_setting base k c given reason at bytes text tail r l bad =
-    let names = setting_names k in
+-- one more was read
+pub one_more_setting : (base : Config) (k : PatternKind) (c : Config) (d : Defaults)
+    (given marked : List Bool) (at next bytes text : List ℕ)
+    → Setting base k c given at bytes → IsLine (codes "set " ++ text) next at
+    → Sets k c.defaults given text d marked → restored k c.defaults d ≡ c.defaults
+    → Setting base k (record c { defaults = d }) marked next bytes
+one_more_setting base k c d given marked at next bytes text r l s others =
+    let sets = r.read.each in
     let defaults = setting_values k base.defaults in
-    stops_as _ _ _ _ at bytes
-    (λ b w.
-    let same = taken k base.defaults w.0.defaults in (
-      record base { defaults = restored k w.0.defaults base.defaults },
-      (rw same.0 w.1, ap (λ (d : Defaults). record base { defaults = d }) same.1),
-    ))
-    (λ b g. (g.0, g.1, g.2.0))
-    (many_stops (codes "set ") (GivesSetting names defaults) (AreSettings defaults)
-    (λ (c : Config). setting_values k c.defaults) (λ set. set.index) (same_setting names defaults)
-    c at bytes text tail r.read l
-    (not_set names defaults (setting_values k c.defaults) given reason at bytes text r bad))
+    let made = r.read.make.1 in
+    let fresh = sym (r.marks s.set.index false s.first) in
+    let kept_there = kept defaults sets s.set.index fresh in
+    let same : slice_get (setting_values k c.defaults) s.set.index
+    ≡ slice_get defaults s.set.index = cc in
+    let long = map-append (λ (set : Assignment). set.index) sets (s.set ∷ []) in
+    let more = assigned_more defaults sets s.set in
+    record {
+      read = one_read (codes "set ") (GivesSetting k base.defaults) (AreSettings base k) c
+          (record c { defaults = d }) at next bytes text s.set r.read l
+          (gives_at k c.defaults base.defaults s.set text same s.gives) (
+            rw long (IsDistinct-push nat_eq_equiv (numbers sets) s.set.index r.read.make.0 fresh),
+            cc s.changed,
+            still_restored k base c d r.read.make.2 others,
+          );
+      marks = rw (long, s.noted) (mark_more given (numbers sets) s.set.index r.marks);
+    }
 
-line_within : (text rest bytes : List ℕ) → IsLine text rest bytes → length rest < length bytes
-line_within text rest bytes l = grind (arith, length-append, l.spelled)
-
-texts_within : (texts : List (List ℕ)) (at bytes : List ℕ) → AreLines texts at bytes
-    → length at ≤ length bytes
-texts_within [] at bytes e = grind arith
-texts_within (t ∷ ts) at bytes l = grind (arith, line_within, texts_within ts at l.0 l.2)
-
-up_within : {A : Type 0} (begin : List ℕ) (Spells : A → List ℕ → Type 0) (xs : List A)
-    (at bytes : List ℕ) → UpTo begin Spells xs at bytes → length at ≤ length bytes
-up_within begin Spells xs at bytes u = grind (arith, up_lines, texts_within)
-
--- the lines up to one offset give the same keys
-same_keys : {A K : Type 0} (begin : List ℕ) (Spells : A → List ℕ → Type 0) (key : A → K)
-    → ((x y : A) (t : List ℕ) → Spells x t → Spells y t → key x ≡ key y) → (xs ys : List A)
-    (at bytes : List ℕ) → UpTo begin Spells xs at bytes → UpTo begin Spells ys at bytes
-    → map key xs ≡ map key ys
-same_keys begin Spells key same [] [] at bytes u v = refl
-same_keys begin Spells key same [] (y ∷ ys) at bytes u v =
-    absurd (grind (arith, line_within, up_within))
-same_keys begin Spells key same (x ∷ xs) [] at bytes u v =
-    absurd (grind (arith, line_within, up_within))
-same_keys begin Spells key same (x ∷ xs) (y ∷ ys) at bytes u v =
-    let texts = same_text begin u.1 u.0 bytes u.2 v.1 v.0 v.2 in
-    let mids = (line_one _ _ v.0 u.0 bytes v.2 u.2).1 in
-    let keys = same x y v.1 (rw texts at u.3) v.3 in
-    let more = same_keys begin Spells key same xs ys at u.0 u.4 (rw mids at v.4) in
-    cc
-
--- behind all lines of a kind none more may follow
-no_further : {A : Type 0} (begin : List ℕ) (Spells : A → List ℕ → Type 0) (xs ys : List A)
-    (left rest text tail bytes : List ℕ) → UpTo begin Spells xs rest bytes → HasNoLine begin rest
-    → length left ≤ length rest → UpTo begin Spells ys left bytes
-    → IsLine (begin ++ text) tail left → ⊥
-no_further begin Spells [] [] left rest text tail bytes h none p u l =
-    none text tail (rw (sym u ∙ h) at l)
-no_further begin Spells [] (y ∷ ys) left rest text tail bytes h none p u l =
-    none u.1 u.0 (rw h at u.2)
-no_further begin Spells (x ∷ xs) [] left rest text tail bytes h none p u l =
-    let near = line_within _ h.0 bytes h.2 in
-    omega (arith, ap length u, p, up_within begin Spells xs rest h.0 h.4)
-no_further begin Spells (x ∷ xs) (y ∷ ys) left rest text tail bytes h none p u l =
-    let mids = (line_one _ _ u.0 h.0 bytes u.2 h.2).1 in
-    no_further begin Spells xs ys left rest text tail h.0 h.4 none p (rw mids at u.4) l
-
--- the reason why the next line sets nothing
-pub setting_reason : (names : List (List ℕ)) (defaults values : List Value) (given : List Bool)
-    (reason : Reason) (at bytes text tail : List ℕ)
-    → Setting names defaults values given at bytes → IsLine (codes "set " ++ text) tail at
-    → IsNotSet names values given text reason → IsSettingReason names defaults reason at bytes
-setting_reason names defaults values given reason at bytes text tail r l bad = go reason bad
+-- where the next line sets nothing, reading stops there, and for this reason
+pub setting_refused : (base : Config) (k : PatternKind) (c : Config) (given : List Bool)
+    (reason : Reason) (at bytes text tail : List ℕ) → Setting base k c given at bytes
+    → IsLine (codes "set " ++ text) tail at → IsNotSet k c.defaults given text reason
+    → StopsAt (HasConfiguration base k) at bytes × IsSettingReason base k reason at bytes
+setting_refused base k c given reason at bytes text tail r l bad = (
+  many_stops (codes "set ") (GivesSetting k base.defaults) (AreSettings base k) (λ set. set.index)
+      (same_setting k base.defaults) c at bytes text tail r.read l (not_set reason bad),
+  because reason bad,
+)
   where
-    here : word_of text ≢ text → AtSetting names defaults at bytes
+    sets : List Assignment
+    sets = r.read.each
+
+    -- the mark of a setting says whether it was set
+    mark_of : (mark : Bool) → NamesMarked k given text mark → (i : ℕ)
+        → IsSetting (setting_names k) i (word_of text) → mark ≡ list_any (nat_eq i) (numbers sets)
+    mark_of mark m i named =
+        rw (one_setting (setting_names k) m.index i (word_of text) m.setting named)
+        at (r.marks m.index mark m.marked)
+
+    not_set : (why : Reason) → IsNotSet k c.defaults given text why → (all : List Assignment)
+        (other : Config) (rest whole : List ℕ) → AreSettings base k all other
+        → GoesOn (GivesSetting k base.defaults) (λ set. set.index) sets all text rest whole → ⊥
+    not_set InternalName b all other rest whole made next = b
+    not_set UnknownSetting b all other rest whole made next =
+        b.1 next.one.index next.spelled.setting.named
+    not_set SetTwice b all other rest whole made next =
+        let once : IsDistinct nat_eq (numbers sets ++ next.one.index ∷ numbers next.more) =
+        subst (IsDistinct nat_eq) next.keys made.0 in
+        let fresh = earlier_differ (numbers sets) (numbers next.more) next.one.index once in
+        let marked = mark_of true b.1 next.one.index next.spelled.setting in
+        cc
+    not_set OtherForm b all other rest whole made next =
+        elim b.0 [
+          | inl none ↦ no_value_follows k base.defaults text none next.one next.spelled
+          | inr m ↦
+              let i = next.one.index in
+              let fresh = sym (mark_of false m i next.spelled.setting) in
+              let defaults = setting_values k base.defaults in
+              let same : slice_get defaults i ≡ slice_get (setting_values k c.defaults) i =
+              rw (r.read.make.1, kept defaults sets i fresh) refl in
+              b.1 next.one (gives_at k base.defaults c.defaults next.one text same next.spelled)
+        ]
+
+    here : word_of text ≢ text → AtSetting base k at bytes
     here spaced = grind arith
 
-    one : (a : AtSetting names defaults at bytes) → a.text ≡ text
+    one : (a : AtSetting base k at bytes) → a.text ≡ text
     one a = same_text (codes "set ") a.text a.rest at a.line text tail l
 
-    without_space : (a : AtSetting names defaults at bytes) → ¬ (word_of text ≡ text)
+    without_space : (a : AtSetting base k at bytes) → ¬ (word_of text ≡ text)
     without_space a none = a.spaced (rw (one a) none)
 
-    unknown : NamesMarked names given text false → ¬ IsUnknown names defaults at bytes
-    unknown m u = u.none m.index (rw (one u.at) m.setting.named)
-
-    was_set : NamesMarked names given text false → ¬ WasSet names defaults at bytes
+    was_set : NamesMarked k given text false → ¬ WasSet base k at bytes
     was_set m w =
-        let same =
-        one_setting names w.index m.index (word_of text) (rw (one w.at) at w.setting) m.setting in
+        let fresh = mark_of false m w.index (rw (one w.at) at w.setting) in
         let keys =
-        same_keys (codes "set ") (GivesSetting names defaults) (λ set. set.index)
-        (same_setting names defaults) w.at.sets r.read.each at bytes w.at.before r.read.lines in
-        let fresh = r.marks m.index false m.marked in
+        same_lines (codes "set ") (GivesSetting k base.defaults) (λ set. set.index)
+        (same_setting k base.defaults) w.at.sets sets at at bytes w.at.before r.read.lines
+        (λ t m l. line_within _ m at l) (λ t m l. line_within _ m at l) in
         let before = w.before in
+        let same = keys.1 in
         cc
 
-    go : (why : Reason) → IsNotSet names values given text why
-        → IsSettingReason names defaults why at bytes
-    go InternalName b = b
-    go UnknownSetting b = record { at = here b.0; none = b.1 }
-    go SetTwice b = record {
+    because : (why : Reason) → IsNotSet k c.defaults given text why
+        → IsSettingReason base k why at bytes
+    because InternalName b = b
+    because UnknownSetting b = record { at = here b.0; none = b.1 }
+    because SetTwice b = record {
       at = here b.0;
       index = b.1.index;
       setting = b.1.setting;
       before = sym (r.marks b.1.index true b.1.marked);
     }
-    go OtherForm b = (
-      λ u. elim b.0 [ inl none ↦ without_space u.at none | inr m ↦ unknown m u ],
+    because OtherForm b = (
+      λ u. elim b.0 [
+        | inl none ↦ without_space u.at none
+        | inr m ↦ u.none m.index (rw (one u.at) m.setting.named)
+      ],
       λ w. elim b.0 [ inl none ↦ without_space w.at none | inr m ↦ was_set m w ],
     )
 
@@ -385,37 +309,32 @@ from_outside : (k : PatternKind) (name rest bytes : List ℕ) → HasService k n
 from_outside k name rest bytes h i = grind (arith, line_one, same_pattern)
 
 -- the settings are those of the pattern of the first line
-of_the_pattern : (base : Config) (Holds : List (List ℕ) → List Value → List ℕ → List ℕ → Type 0)
-    (k : PatternKind) (name left rest bytes : List ℕ) → HasService k name rest bytes
-    → AmongSettings base Holds left bytes
-    → Holds (setting_names k) (setting_values k base.defaults) left rest
-of_the_pattern base Holds k name left rest bytes h a =
+of_the_pattern : (Holds : PatternKind → List ℕ → List ℕ → Type 0) (k : PatternKind)
+    (name left rest bytes : List ℕ) → HasService k name rest bytes
+    → AmongSettings Holds left bytes → Holds k left rest
+of_the_pattern Holds k name left rest bytes h a =
     let same = service_same a.kind k a.name name a.at_settings rest bytes a.service h in
     rw (same.0, same.1) at a.holds
 
 pub reason_in_settings : (base : Config) (reason : Reason) (k : PatternKind)
     (name left rest bytes : List ℕ)
-    → HasService k name rest bytes
-    → IsSettingReason (setting_names k) (setting_values k base.defaults) reason left rest
+    → HasService k name rest bytes → IsSettingReason base k reason left rest
     → IsReason base reason left bytes
 reason_in_settings base reason k name left rest bytes h b = go reason b
   where
-    among : (Holds : List (List ℕ) → List Value → List ℕ → List ℕ → Type 0)
-        → Holds (setting_names k) (setting_values k base.defaults) left rest
-        → AmongSettings base Holds left bytes
+    among : (Holds : PatternKind → List ℕ → List ℕ → Type 0) → Holds k left rest
+        → AmongSettings Holds left bytes
     among Holds b =
         record { kind = k; name = name; at_settings = rest; service = h; holds = b }
 
-    go : (why : Reason)
-        → IsSettingReason (setting_names k) (setting_values k base.defaults) why left rest
-        → IsReason base why left bytes
+    go : (why : Reason) → IsSettingReason base k why left rest → IsReason base why left bytes
     go InternalName b = absurd b
-    go UnknownSetting b = among IsUnknown b
-    go SetTwice b = among WasSet b
+    go UnknownSetting b = among (IsUnknown base) b
+    go SetTwice b = among (WasSet base) b
     go OtherForm b = (
       from_outside k name rest bytes h,
-      λ a. b.0 (of_the_pattern base IsUnknown k name left rest bytes h a),
-      λ a. b.1 (of_the_pattern base WasSet k name left rest bytes h a),
+      λ a. b.0 (of_the_pattern (IsUnknown base) k name left rest bytes h a),
+      λ a. b.1 (of_the_pattern (WasSet base) k name left rest bytes h a),
     )
 
 -- behind the settings a line is bad for its form
@@ -424,17 +343,13 @@ pub stops_behind_settings : (base : Config) (reason : Reason) (k : PatternKind) 
     → HasConfiguration base k c rest mid → Breaks (after_settings k) left rest
     → StopsReading base left bytes × IsReason base reason left bytes
 stops_behind_settings base reason k name c left rest mid bytes e h g bad =
-    let names = setting_names k in
-    let defaults = setting_values k base.defaults in
     let s = broken (after_settings_lawful k) left rest bad in
-    let late : AtSetting names defaults left mid → ⊥ =
-    λ a. no_further (codes "set ") (GivesSetting names defaults) g.0.each a.sets left rest a.text
-    a.rest mid g.0.lines g.0.ends (texts_within s.read left rest s.lines) a.before a.line in
-    let form : IsReason base OtherForm left bytes = (
-      from_outside k name mid bytes h,
-      λ a. late (of_the_pattern base IsUnknown k name left mid bytes h a).at,
-      λ a. late (of_the_pattern base WasSet k name left mid bytes h a).at,
-    ) in (
+    let late : AtSetting base k left mid → ⊥ = λ a.
+    let next = goes_on (codes "set ") (GivesSetting k base.defaults) no_key (λ x y t p q. refl)
+    a.sets g.each left rest mid a.text a.rest a.before a.line g.lines g.ends in
+    omega (arith, next.within, texts_within s.read left rest s.lines) in
+    let form = reason_in_settings base OtherForm k name left mid bytes h
+    (λ u. late u.at, λ w. late w.at) in (
       stops_behind_service base k name left mid bytes h (elim bad [
         | inl fails ↦ inl (inr (c, rest, g, fails))
         | inr more ↦ inr ((c, more.0), (rest, g, more.1), more.2)
@@ -443,18 +358,14 @@ stops_behind_settings base reason k name c left rest mid bytes e h g bad =
     )
 
 -- a setting that was set has a name
-known : (names : List (List ℕ)) (defaults : List Value) (left bytes : List ℕ)
-    → IsUnknown names defaults left bytes → ¬ WasSet names defaults left bytes
-known names defaults left bytes u w =
+unknown_or_set : (base : Config) (left bytes : List ℕ) → AmongSettings (IsUnknown base) left bytes
+    → ¬ AmongSettings (WasSet base) left bytes
+unknown_or_set base left bytes u other =
+    let w = of_the_pattern (WasSet base) u.kind u.name left u.at_settings bytes u.service other in
+    let at = u.holds.at in
     let texts =
-    same_text (codes "set ") w.at.text w.at.rest left w.at.line u.at.text u.at.rest u.at.line in
-    u.none w.index (rw texts at w.setting.named)
-
-unknown_or_set : (base : Config) (left bytes : List ℕ) → AmongSettings base IsUnknown left bytes
-    → ¬ AmongSettings base WasSet left bytes
-unknown_or_set base left bytes u w =
-    known (setting_names u.kind) (setting_values u.kind base.defaults) left u.at_settings
-    u.holds (of_the_pattern base WasSet u.kind u.name left u.at_settings bytes u.service w)
+    same_text (codes "set ") w.at.text w.at.rest left w.at.line at.text at.rest at.line in
+    u.holds.none w.index (rw texts at w.setting.named)
 
 -- where one reason holds, no other does
 pub one_reason : (base : Config) (one other : Reason) (left bytes : List ℕ)

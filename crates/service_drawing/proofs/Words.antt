@@ -43,22 +43,6 @@ bad_line text rest bytes lacks e bad t x l =
     (sym e ∙ l.spelled) in
     bad (subst IsPlain (sym same.0) l.plain)
 
--- a line that does not begin so
-pub begins_other : (line rest bytes first second : List ℕ) → IsLine line rest bytes
-    → ((x : List ℕ) → line ≢ first ++ x) → HasNoLine (first ++ second) bytes
-begins_other line rest bytes first second l bad text more m =
-    bad (second ++ text)
-    ((line_one line _ rest more bytes l m).0 ∙ append_assoc first second text)
-
--- a line that begins so and does not go on so
-pub goes_on_other : (line rest bytes first second after : List ℕ) → IsLine line rest bytes
-    → line ≡ first ++ after → ((x : List ℕ) → after ≢ second ++ x)
-    → HasNoLine (first ++ second) bytes
-goes_on_other line rest bytes first second after l e bad text more m =
-    bad text
-    (append_cancel_left first after (second ++ text)
-    (sym e ∙ (line_one line _ rest more bytes l m).0 ∙ append_assoc first second text))
-
 pub space_ends : (x : List ℕ) → EndsNumber (32 ∷ x)
 space_ends x digit = omega (arith, digit)
 
@@ -119,16 +103,6 @@ variant_front v x = grind arith
 pub same_variant : (v w : TypeVariant) (x y : List ℕ) → variant_word v ++ x ≡ variant_word w ++ y
     → v ≡ w
 same_variant v w x y e = sym (variant_front v x) ∙ ap variant_at e ∙ variant_front w y
-
--- the last of three alignments is no number
-pub no_third : (text payload : List ℕ) (a b : ℕ) → a < 2 ^ 64 → b < 2 ^ 64
-    → text ≡ decimal a ++ 32 ∷ (decimal b ++ 32 ∷ payload)
-    → ((n : ℕ) → n < 2 ^ 64 → ¬ (payload ≡ decimal n)) → (d : MessageTypeDetails)
-    → AreAlignments d → ¬ (text ≡ alignments_text d)
-no_third text payload a b pa pb e bad d are is =
-    bad d.payload.alignment are.payload.0
-    (same_numbers text a b d.header.alignment d.user_header.alignment payload _ pa pb are.header.0
-    are.user_header.0 e is).2
 
 -- three numbers, not all of which are powers of two
 pub no_alignments : (text payload : List ℕ) (a b k : ℕ) → a < 2 ^ 64 → b < 2 ^ 64 → k < 2 ^ 64
@@ -211,11 +185,3 @@ pub not_hashed : (k : PatternKind) (name : List ℕ) (why : ServiceHashError)
     → MakesHash sha1_text (λ input. ⊥) (hash_input k name) (Err why) → ¬ MayBeNamed k name
 not_hashed k name HasherFailed h may = h
 not_hashed k name IllegalText h may = h may.hashed
-
--- a line that spells no service
-pub no_service : (line rest bytes : List ℕ) → IsLine line rest bytes
-    → ((k : PatternKind) (name : List ℕ) → MayBeNamed k name
-    → ¬ (line ≡ pattern_word k ++ 32 ∷ name))
-    → (k : PatternKind) (name more : List ℕ) → ¬ HasService k name more bytes
-no_service line rest bytes l bad k name more h =
-    bad k name h.named (line_one line _ rest more bytes l h.line).0

@@ -11,7 +11,7 @@ use Rattle.iox2_texts.specs.Verify.{Requirements}
 use Rattle.iox2_config.specs.Hashing.{hash_input, sha1_text}
 use Rattle.iox2_config.specs.declared.hash.input.PatternKind.{PatternKind}
 use Rattle.service_drawing.specs.Lines.{Form, Stops, line_by_line, sequence, exchange, HasService, HasAttributes, HasRequirements, is_plain, IsLine, UpTo, IsInternal}
-use Rattle.service_drawing.specs.Settings.{HasConfiguration, Assignment, GivesSetting, HasName, IsSetting, setting_names, setting_values, word_of}
+use Rattle.service_drawing.specs.Settings.{HasConfiguration, Assignment, GivesSetting, HasName, IsSetting, setting_names, word_of}
 use Rattle.service_drawing.specs.declared.description.Description.{Description}
 use Rattle.service_drawing.specs.declared.description.Exchange.{Exchange}
 use Rattle.std.specs.List.{find, before_first, ends_with, list_any}
@@ -19,7 +19,6 @@ use Rattle.service_drawing.specs.declared.reading.cause.Cause.{Cause}
 use Rattle.service_drawing.specs.declared.reading.cause.Cause.TheVariants.{NoNewline, CarriageReturn, ForeignByte, TwoSpaces, Read}
 use Rattle.service_drawing.specs.declared.reading.cause.Reason.{Reason}
 use Rattle.service_drawing.specs.declared.reading.cause.Reason.TheVariants.{InternalName, UnknownSetting, SetTwice, OtherForm}
-use Rattle.service_drawing.specs.declared.settings.Value.{Value}
 
 -- the bytes begin with a line `config`
 abbrev pub Opens : List ℕ → Type 0
@@ -142,54 +141,49 @@ IsServiceReason other bytes = ⊥
 
 -- only lines that set settings stand before what is left of the bytes, and that begins with one
 -- more such line, in which a space follows the name of the setting
-pub record AtSetting (names : List (List ℕ)) (defaults : List Value)
-    (left bytes : List ℕ) : Type 0 where
+pub record AtSetting (base : Config) (kind : PatternKind) (left bytes : List ℕ) : Type 0 where
   pub sets : List Assignment
-  pub before : UpTo (codes "set ") (GivesSetting names defaults) sets left bytes
+  pub before : UpTo (codes "set ") (GivesSetting kind base.defaults) sets left bytes
   pub text : List ℕ
   pub rest : List ℕ
   pub line : IsLine (codes "set " ++ text) rest left
   pub spaced : word_of text ≢ text
 
 -- the line with which what is left begins names none of the settings
-pub record IsUnknown (names : List (List ℕ)) (defaults : List Value)
-    (left bytes : List ℕ) : Type 0 where
-  pub at : AtSetting names defaults left bytes
-  pub none : (index : ℕ) → ¬ HasName names index (word_of at.text)
+pub record IsUnknown (base : Config) (kind : PatternKind) (left bytes : List ℕ) : Type 0 where
+  pub at : AtSetting base kind left bytes
+  pub none : (index : ℕ) → ¬ HasName (setting_names kind) index (word_of at.text)
 
 -- the line with which what is left begins names a setting that a line before it has set
-pub record WasSet (names : List (List ℕ)) (defaults : List Value)
-    (left bytes : List ℕ) : Type 0 where
-  pub at : AtSetting names defaults left bytes
+pub record WasSet (base : Config) (kind : PatternKind) (left bytes : List ℕ) : Type 0 where
+  pub at : AtSetting base kind left bytes
   pub index : ℕ
-  pub setting : IsSetting names index (word_of at.text)
+  pub setting : IsSetting (setting_names kind) index (word_of at.text)
   pub before : IsTrue (list_any (nat_eq index) (map (λ set. set.index) at.sets))
 
 -- this is the reason why a line sets nothing
-abbrev pub IsSettingReason : List (List ℕ) → List Value → Reason → List ℕ → List ℕ → Type 0
-IsSettingReason names defaults InternalName left bytes = ⊥
-IsSettingReason names defaults UnknownSetting left bytes = IsUnknown names defaults left bytes
-IsSettingReason names defaults SetTwice left bytes = WasSet names defaults left bytes
-IsSettingReason names defaults OtherForm left bytes =
-    (¬ IsUnknown names defaults left bytes) × (¬ WasSet names defaults left bytes)
+abbrev pub IsSettingReason : Config → PatternKind → Reason → List ℕ → List ℕ → Type 0
+IsSettingReason base kind InternalName left bytes = ⊥
+IsSettingReason base kind UnknownSetting left bytes = IsUnknown base kind left bytes
+IsSettingReason base kind SetTwice left bytes = WasSet base kind left bytes
+IsSettingReason base kind OtherForm left bytes =
+    (¬ IsUnknown base kind left bytes) × (¬ WasSet base kind left bytes)
 
--- the bytes begin with the line of a service, and this holds of what follows it, for the settings
--- of its pattern
-pub record AmongSettings (base : Config)
-    (Holds : List (List ℕ) → List Value → List ℕ → List ℕ → Type 0)
+-- the bytes begin with the line of a service, and this holds of what follows it, for its pattern
+pub record AmongSettings (Holds : PatternKind → List ℕ → List ℕ → Type 0)
     (left bytes : List ℕ) : Type 0 where
   pub kind : PatternKind
   pub name : List ℕ
   pub at_settings : List ℕ
   pub service : HasService kind name at_settings bytes
-  pub holds : Holds (setting_names kind) (setting_values kind base.defaults) left at_settings
+  pub holds : Holds kind left at_settings
 
 -- this is the reason why no description goes on with the line with which what is left begins:
 -- the name of the service, that of a setting, a setting that was set before, and else its form
 abbrev pub IsReason : Config → Reason → List ℕ → List ℕ → Type 0
 IsReason base InternalName left bytes = BeginsInternal bytes
-IsReason base UnknownSetting left bytes = AmongSettings base IsUnknown left bytes
-IsReason base SetTwice left bytes = AmongSettings base WasSet left bytes
+IsReason base UnknownSetting left bytes = AmongSettings (IsUnknown base) left bytes
+IsReason base SetTwice left bytes = AmongSettings (WasSet base) left bytes
 IsReason base OtherForm left bytes =
-    (¬ BeginsInternal bytes) × (¬ AmongSettings base IsUnknown left bytes)
-    × (¬ AmongSettings base WasSet left bytes)
+    (¬ BeginsInternal bytes) × (¬ AmongSettings (IsUnknown base) left bytes)
+    × (¬ AmongSettings (WasSet base) left bytes)

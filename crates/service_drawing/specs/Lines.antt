@@ -279,9 +279,8 @@ abbrev pub pair_text : Pair → List ℕ
 pair_text pair = pair.key ++ 32 ∷ pair.value
 
 -- the text gives the pair
-pub record GivesPair (pair : Pair) (text : List ℕ) : Type 0 where
-  pub legal : IsPair pair
-  pub spelled : text ≡ pair_text pair
+abbrev pub GivesPair : Pair → List ℕ → Type 0
+GivesPair pair text = IsPair pair × (text ≡ pair_text pair)
 
 -- at most 16 pairs, of which this is the set
 abbrev pub AreAttributes : List Pair → List Pair → Type 0

@@ -140,13 +140,13 @@ pub record Assignment : Type 0 where
   pub index : ℕ
   pub value : Value
 
--- the text names one of the settings and spells a value that it may have
-pub record GivesSetting (names : List (List ℕ)) (values : List Value) (set : Assignment)
+-- the text names one of the settings of a pattern and spells a value that it may have
+pub record GivesSetting (kind : PatternKind) (d : Defaults) (set : Assignment)
     (text : List ℕ) : Type 0 where
   pub old : Value
-  pub setting : IsSetting names set.index (word_of text)
+  pub setting : IsSetting (setting_names kind) set.index (word_of text)
   pub spelled : text ≡ word_of text ++ 32 ∷ value_text set.value
-  pub stands : slice_get values set.index ≡ Some old
+  pub stands : slice_get (setting_values kind d) set.index ≡ Some old
   pub legal : MayBecome old set.value
 
 -- the values after each of these settings in turn has got its value
@@ -154,45 +154,44 @@ abbrev pub assigned : List Value → List Assignment → List Value
 assigned values [] = values
 assigned values (set ∷ sets) = assigned (slice_set values set.index set.value) sets
 
--- each setting is set once at most, and the values are the defaults but for those that are set
-abbrev pub AreSettings : List Value → List Assignment → List Value → Type 0
-AreSettings defaults sets values =
-    IsDistinct nat_eq (map (λ set. set.index) sets) × (values ≡ assigned defaults sets)
+-- each setting is set once at most, and the configuration is the one below it but for the settings
+-- of this pattern that are set
+abbrev pub AreSettings : Config → PatternKind → List Assignment → Config → Type 0
+AreSettings base kind sets c =
+    IsDistinct nat_eq (map (λ set. set.index) sets)
+    × (setting_values kind c.defaults ≡ assigned (setting_values kind base.defaults) sets)
+    × (record c { defaults = restored kind base.defaults c.defaults } ≡ base)
 
 -- the text gives one of the settings, which no line before has set,
 -- and that alone has got the value and is marked as set
-pub record Sets (names : List (List ℕ)) (old : List Value) (given : List Bool) (text : List ℕ)
-    (new : List Value) (marked : List Bool) : Type 0 where
+pub record Sets (kind : PatternKind) (old : Defaults) (given : List Bool) (text : List ℕ)
+    (new : Defaults) (marked : List Bool) : Type 0 where
   pub set : Assignment
-  pub gives : GivesSetting names old set text
+  pub gives : GivesSetting kind old set text
   pub first : slice_get given set.index ≡ Some false
-  pub changed : new ≡ slice_set old set.index set.value
+  pub changed : setting_values kind new ≡ slice_set (setting_values kind old) set.index set.value
   pub noted : marked ≡ slice_set given set.index true
 
 -- the text names a setting that is marked so
-pub record NamesMarked (names : List (List ℕ)) (given : List Bool) (text : List ℕ)
+pub record NamesMarked (kind : PatternKind) (given : List Bool) (text : List ℕ)
     (mark : Bool) : Type 0 where
   pub index : ℕ
-  pub setting : IsSetting names index (word_of text)
+  pub setting : IsSetting (setting_names kind) index (word_of text)
   pub marked : slice_get given index ≡ Some mark
 
 -- for this reason no setting is set: the name, behind which a space stands, is looked at first,
 -- then whether it was set before
-abbrev pub IsNotSet : List (List ℕ) → List Value → List Bool → List ℕ → Reason → Type 0
-IsNotSet names values given text UnknownSetting =
-    (word_of text ≢ text) × ((index : ℕ) → ¬ HasName names index (word_of text))
-IsNotSet names values given text SetTwice =
-    (word_of text ≢ text) × NamesMarked names given text true
-IsNotSet names values given text OtherForm =
-    ((word_of text ≡ text) ⊎ NamesMarked names given text false)
-    × ((set : Assignment) → ¬ GivesSetting names values set text)
-IsNotSet names values given text InternalName = ⊥
+abbrev pub IsNotSet : PatternKind → Defaults → List Bool → List ℕ → Reason → Type 0
+IsNotSet kind d given text UnknownSetting =
+    (word_of text ≢ text) × ((index : ℕ) → ¬ HasName (setting_names kind) index (word_of text))
+IsNotSet kind d given text SetTwice = (word_of text ≢ text) × NamesMarked kind given text true
+IsNotSet kind d given text OtherForm =
+    ((word_of text ≡ text) ⊎ NamesMarked kind given text false)
+    × ((set : Assignment) → ¬ GivesSetting kind d set text)
+IsNotSet kind d given text InternalName = ⊥
 
--- the bytes begin with the lines of the settings of this pattern, with
--- which the configuration is the one below it but for those settings
+-- the bytes begin with the lines of the settings of this pattern, with which the configuration is
+-- the one below it but for those settings
 abbrev pub HasConfiguration : Config → PatternKind → Config → List ℕ → List ℕ → Type 0
-HasConfiguration base kind c rest bytes =
-    let defaults = setting_values kind base.defaults in
-    HasMany (codes "set ") (GivesSetting (setting_names kind) defaults) (AreSettings defaults)
-    (setting_values kind c.defaults) rest bytes
-    × (record c { defaults = restored kind base.defaults c.defaults } ≡ base)
+HasConfiguration base kind =
+    HasMany (codes "set ") (GivesSetting kind base.defaults) (AreSettings base kind)

@@ -85,7 +85,7 @@ expected_text prefix form = codes "expected " ++ prefix ++ (form ++ codes "\n")
 -- the line that reports a bad line
 abbrev pub bad_line_text : ℕ → Cause → List ℕ → List ℕ → List ℕ
 bad_line_text line cause prefix form =
-    codes "bad line " ++ decimal line ++ (cause_text cause ++ expected_text prefix form)
+    codes "bad line " ++ decimal line ++ cause_text cause ++ expected_text prefix form
 
 -- the line that reports a fault
 abbrev pub fault_text : Fault → List ℕ

@@ -118,6 +118,7 @@ fn write_byte<E: Sink>(errors: &mut E, byte: u8) -> io::Result<()>
 }
 
 /// Writes the line that reports a bad line.
+#[tactic(auto, using(line_streams::proofs::Written::appends_more))]
 fn write_bad_line<E: Sink>(
     errors: &mut E,
     line: usize,
@@ -131,15 +132,6 @@ fn write_bad_line<E: Sink>(
 {
     let mut digits = Buffer::new();
     write_both(errors, b"bad line ", digits.format(line).as_bytes())?;
-    write_reason(errors, cause, prefix, form)
-}
-
-/// Writes why a line is bad, and what was expected.
-fn write_reason<E: Sink>(errors: &mut E, cause: Cause, prefix: &str, form: &str) -> io::Result<()>
-    ensures text { OnOk result (Appends (E.contents errors.old) (E.contents errors.new)
-        (cause_text cause ++ expected_text prefix.now form.now)) }
-    ensures failed { IfErr result (WriteFails E.Writes errors.new) }
-{
     write_cause(errors, cause)?;
     write_expected(errors, prefix, form)
 }

@@ -10,6 +10,12 @@ use line_streams::after_word;
 use memchr::memmem;
 use std::alloc::Global;
 
+/// How many bytes the word `config` has.
+const CONFIG: usize = 6;
+
+/// How many bytes a line `end` has, with the newline before it and its own.
+const END: usize = 5;
+
 /// What is left of an input, and the configuration over which it is read.
 #[derive(Drop)]
 pub(crate) struct Over<'a> {
@@ -35,7 +41,7 @@ pub(crate) fn base_of(alloc: Global, bytes: &[u8]) -> Result<Over<'_>, Fault>
         });
     };
     // The newline of the line `config` too, so that lines have the numbers that they have in all.
-    let block = &bytes[6..];
+    let block = &bytes[CONFIG..];
     let Some(end) = memmem::find(block, b"\nend\n") else {
         return Err(Fault::NoEnd);
     };
@@ -43,7 +49,7 @@ pub(crate) fn base_of(alloc: Global, bytes: &[u8]) -> Result<Over<'_>, Fault>
         Ok(file) => Ok(Over {
             base: file.config,
             warnings: file.warnings,
-            rest: &block[end + 5..],
+            rest: &block[end + END..],
         }),
         Err(ReportError::Refused(lines)) => Err(Fault::BadSettings(lines)),
         Err(ReportError::NoMemory) => Err(Fault::NoMemory),

@@ -1,15 +1,9 @@
 //! The settings of a service, by their own names.
-ghost use Rattle.std.specs.Prelude.{◌≡◌, ◌<◌, Option, IfSome, MatchOption, Some};
+ghost use Rattle.std.specs.Prelude.{◌≡◌, ◌<◌, IfSome, MatchOption, Some};
 ghost use Rattle.std.specs.Prelude.{IsTrue, false, slice_get, slice_set};
-ghost use Rattle.std.specs.declared.time.Duration.{Duration};
-ghost use Rattle.iox2_config.specs.declared.config.choices.AllocationStrategy.{AllocationStrategy};
-ghost use Rattle.iox2_config.specs.declared.config.choices.BackpressureStrategy.{BackpressureStrategy};
 ghost use Rattle.service_drawing.specs.Settings.{MayBecome, value_text, listed, restored};
 ghost use Rattle.service_drawing.specs.Settings.{setting_names, setting_values};
 ghost use Rattle.service_drawing.specs.declared.settings.Value.{Value};
-ghost use Rattle.service_drawing.specs.declared.settings.Value.TheVariants.{Switch, Perhaps};
-ghost use Rattle.service_drawing.specs.declared.settings.Value.TheVariants.{Deadline, Backpressure};
-ghost use Rattle.service_drawing.specs.declared.settings.Value.TheVariants.{Allocation};
 ghost use Rattle.std.specs.Option.{option_map};
 
 use crate::reading::words::number;
@@ -81,7 +75,14 @@ impl Value {
                 }
                 number(text).map(|n| Value::Deadline(Some(Duration::from_nanos(n as u64))))
             }
-            Value::Backpressure(_) => backpressure(text).map(Value::Backpressure),
+            Value::Backpressure(_) => {
+                if text == b"RetryUntilDelivered".as_slice() {
+                    return Some(Value::Backpressure(BackpressureStrategy::RetryUntilDelivered));
+                }
+                (text == b"DiscardData".as_slice()).then_some(Value::Backpressure(
+                    BackpressureStrategy::DiscardData,
+                ))
+            }
             Value::Allocation(_) => match text {
                 b"BestFit" => Some(Value::Allocation(AllocationStrategy::BestFit)),
                 b"PowerOfTwo" => Some(Value::Allocation(AllocationStrategy::PowerOfTwo)),
@@ -89,20 +90,6 @@ impl Value {
                 _ => None,
             },
         }
-    }
-}
-
-fn backpressure(text: &[u8]) -> Option<BackpressureStrategy>
-    ensures { MatchOption result
-        ((strategy : BackpressureStrategy) → ¬ (text.now ≡ value_text (Backpressure strategy)))
-        (λ strategy. text.now ≡ value_text (Backpressure strategy)) }
-{
-    if text == b"RetryUntilDelivered".as_slice() {
-        Some(BackpressureStrategy::RetryUntilDelivered)
-    } else if text == b"DiscardData".as_slice() {
-        Some(BackpressureStrategy::DiscardData)
-    } else {
-        None
     }
 }
 

@@ -168,13 +168,29 @@ fn answer<R: Source>(
     ensures failed { IfErr result (ReadFails R.FailsBy input.new) }
 {
     match request {
-        Ok(Request::Drawing(form)) => match read_all(alloc, input)? {
+        Ok(request) => answer_to(alloc, request, input),
+        Err(fault) => Ok(Err(fault)),
+    }
+}
+
+/// What is answered to a request.
+fn answer_to<R: Source>(
+    alloc: Global,
+    request: Request,
+    input: &mut R,
+) -> io::Result<Result<Written, Fault>>
+    ensures end_is { IfOk result (λ end. Answers (R.remaining input.old) (Ok request) end) }
+    ensures read { IfOk result (λ end. IfOk end (λ written.
+        IsRead (Ok request) → IsAtEnd (R.remaining input.new))) }
+    ensures failed { IfErr result (ReadFails R.FailsBy input.new) }
+{
+    match request {
+        Request::Drawing(form) => match read_all(alloc, input)? {
             Ok(bytes) => Ok(drawn(alloc, form, &bytes)),
             Err(_) => Ok(Err(Fault::NoMemory)),
         },
-        Ok(Request::Help) => Ok(text_of(alloc, HELP)),
-        Ok(Request::Version) => Ok(text_of(alloc, VERSION)),
-        Err(fault) => Ok(Err(fault)),
+        Request::Help => Ok(text_of(alloc, HELP)),
+        Request::Version => Ok(text_of(alloc, VERSION)),
     }
 }
 

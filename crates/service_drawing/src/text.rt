@@ -54,12 +54,9 @@ fn write_files(out: &mut String, service: &Description) -> Result<(), AllocError
         out,
         "\nfiles, with * for what the configuration does not fix"
     )?;
+    let name_with = |suffix| file_name(&global.prefix, &service.hash, suffix);
     write!(out, "  static configuration   ")?;
-    let name = file_name(
-        &global.prefix,
-        &service.hash,
-        &names.static_config_storage_suffix,
-    );
+    let name = name_with(&names.static_config_storage_suffix);
     let path = match (global.service_dir(), name) {
         (Ok(directory), Ok(name)) => FilePath::from_path_and_file(&directory, &name).ok(),
         _ => None,
@@ -69,11 +66,7 @@ fn write_files(out: &mut String, service: &Description) -> Result<(), AllocError
         None => writeln!(out, "none: its path would have more than 255 bytes")?,
     }
     write!(out, "  dynamic configuration  ")?;
-    match file_name(
-        &global.prefix,
-        &service.hash,
-        &names.dynamic_config_storage_suffix,
-    ) {
+    match name_with(&names.dynamic_config_storage_suffix) {
         Ok(name) => writeln!(out, "{}", name.as_str())?,
         Err(_) => writeln!(out, "none: its name would have more than 255 bytes")?,
     }
@@ -268,15 +261,12 @@ fn write_table(
 ) -> Result<(), AllocError>
     requires { IsWhole layout.now }
 {
-    writeln!(
-        out,
-        "    offset       size  alignment {:>10}  part",
-        if message.opener.is_some() {
-            "opener's"
-        } else {
-            ""
-        }
-    )?;
+    let opener = if message.opener.is_some() {
+        "opener's"
+    } else {
+        ""
+    };
+    writeln!(out, "    offset       size  alignment {opener:>10}  part")?;
     for row in rows(message, layout) {
         if row.is_shown() {
             write_row(out, row, layout)?;

@@ -2,7 +2,7 @@
 ghost use Rattle.std.specs.Prelude.{◌≡◌, ℕ, List, MatchOption, MatchResult};
 ghost use Rattle.iox2_texts.specs.Pair.{Pair};
 ghost use Rattle.service_drawing.specs.Lines.{IsFailure, line_by_line};
-ghost use Rattle.service_drawing.specs.Lines.{IsKey, IsPair, pair_text, HasAttributes};
+ghost use Rattle.service_drawing.specs.Lines.{IsKey, GivesPair, HasAttributes};
 ghost use Rattle.service_drawing.specs.Lines.{HasRequirements, RequiresMore, RequiresNoMore};
 
 use super::cause::Expected;
@@ -13,10 +13,8 @@ use line_streams::{after_word, before_byte};
 /// The key and the value of a text. The key has no space.
 #[tactic(auto, using(crate::proofs::Attributes::found_pair))]
 fn pair_in(text: &[u8]) -> Option<(AttributeKey, AttributeValue)>
-    ensures { MatchOption result
-        ((pair : Pair) → IsPair pair → ¬ (text.now ≡ pair_text pair))
-        (λ pair. IsPair (record { key = pair.0; value = pair.1 })
-        × (text.now ≡ pair_text (record { key = pair.0; value = pair.1 }))) }
+    ensures { MatchOption result ((pair : Pair) → ¬ GivesPair pair text.now)
+        (λ pair. GivesPair (record { key = pair.0; value = pair.1 }) text.now) }
 {
     let Some((key, value)) = before_byte(text, b' ') else {
         return None;

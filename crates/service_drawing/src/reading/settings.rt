@@ -4,7 +4,7 @@ ghost use Rattle.std.specs.Prelude.{slice_get};
 ghost use Rattle.service_drawing.specs.Lines.{StopsAt};
 ghost use Rattle.service_drawing.specs.Descriptions.{IsSettingReason};
 ghost use Rattle.service_drawing.specs.Settings.{HasConfiguration, HasName, IsDashed, IsNamed, IsNotSet};
-ghost use Rattle.service_drawing.specs.Settings.{IsSetting, Sets, dash_for, restored};
+ghost use Rattle.service_drawing.specs.Settings.{IsSetting, Sets, restored};
 ghost use Rattle.service_drawing.specs.Settings.{setting_names, setting_values};
 
 use super::cause::{Expected, Reason};
@@ -14,23 +14,13 @@ use iox2_config::config::{Config, Defaults};
 use iox2_config::hash::PatternKind;
 use line_streams::before_byte;
 
-/// The byte, or a dash instead of an underscore.
-fn with_dash(byte: u8) -> u8
-    ensures { result ≡ dash_for byte }
-{
-    if byte == b'_' { b'-' } else { byte }
-}
-
 /// Whether the word is this name with dashes instead of underscores.
 fn is_dashed(word: &[u8], name: &str) -> bool
     ensures { IsTrue result ↔ IsDashed word.now name.now }
 {
     let name = name.as_bytes();
     word.len() == name.len()
-        && word
-            .iter()
-            .zip(name)
-            .all(|(byte, own)| *byte == with_dash(*own))
+        && word.iter().zip(name).all(|(byte, own)| *byte == if *own == b'_' { b'-' } else { *own })
 }
 
 /// Whether the word is this name, as the code or as configuration files have it.
@@ -66,12 +56,12 @@ fn set(
     given: &mut [bool; 32],
     text: &[u8],
 ) -> Result<(), Reason>
-    ensures set { IfOk result (λ done. Sets (setting_names kind) (setting_values kind defaults.old)
-        given.old text.now (setting_values kind defaults.new) given.new) }
+    ensures set { IfOk result (λ done. Sets kind defaults.old given.old text.now
+        defaults.new given.new) }
     ensures others { restored kind defaults.old defaults.new ≡ defaults.old }
     ensures kept { IfErr result (λ reason. defaults.new ≡ defaults.old) }
-    ensures refused { IfErr result (λ reason. IsNotSet (setting_names kind)
-        (setting_values kind defaults.old) given.old text.now reason) }
+    ensures refused { IfErr result (λ reason.
+        IsNotSet kind defaults.old given.old text.now reason) }
 {
     let Some((word, text)) = before_byte(text, b' ') else {
         return Err(Reason::OtherForm);
@@ -119,8 +109,7 @@ pub(super) fn settings_before<'a>(
     ensures { MatchResult result
         (λ rest. HasConfiguration config.old kind config.new rest.now bytes.now)
         (λ expected. StopsAt (HasConfiguration config.old kind) expected.rest.now bytes.now
-        × IsSettingReason (setting_names kind) (setting_values kind config.old.defaults)
-        expected.reason expected.rest.now bytes.now) }
+        × IsSettingReason config.old kind expected.reason expected.rest.now bytes.now) }
 {
     let mut given = [false; 32];
     let mut rest = bytes;

@@ -2,8 +2,8 @@ use Rattle.service_drawing.proofs.Attributes.{no_name_of, no_pair_of}
 use Rattle.service_drawing.proofs.reading.attributes.pair_in.Goals as goal
 
 pub returns-in_default : goal.returns-in_default
-returns-in_default c pair is e =
-    c.in_default.ensures.read (pair.key, pair.value) is.key.word e
+returns-in_default c pair gives =
+    c.in_default.ensures.read (pair.key, pair.value) gives.0.key.word gives.1
 
 pub returns-in_default-new : goal.returns-in_default-new
 returns-in_default-new c =

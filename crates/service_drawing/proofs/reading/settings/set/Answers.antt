@@ -37,7 +37,7 @@ returns-in_default-of_kind-2-clause-refused c =
         marked = marked_at c.args.given.now c.in-Some-find.index false
             (search rules) c.if-given-index.false;
       }),
-      not_a_value (setting_names c.args.kind) _ c.in-Some-find.index c.in-Some-find.value
+      not_a_value c.args.kind c.args.defaults.now c.in-Some-find.index c.in-Some-find.value
           c.args.text.now c.in-Some.text.now named (search rules) (search rules)
           c.in_default-of_kind.ensures,
     )
