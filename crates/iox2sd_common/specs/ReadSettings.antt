@@ -5,8 +5,6 @@ use Rattle.iox2sd_common.specs.Status.{OfNumber, code}
 use Rattle.iox2sd_common.specs.declared.read_settings.Field.{Field}
 use Rattle.iox2sd_common.specs.declared.read_settings.Field.TheVariants as field
 use Rattle.iox2sd_common.specs.declared.read_settings.FieldAnswer.{FieldAnswer}
-use Rattle.iox2sd_common.specs.declared.read_settings.Refusal.{Refusal}
-use Rattle.iox2sd_common.specs.declared.read_settings.Refusal.TheVariants as refusal
 use Rattle.iox2sd_common.specs.declared.settings.GlobalSettings.{GlobalSettings}
 use Rattle.iox2sd_common.specs.declared.status.Status.{Status}
 use Rattle.iox2sd_common.specs.declared.status.Status.TheVariants as status
@@ -35,11 +33,6 @@ field_answer f = record { status = code (field_status f); field = field_number f
 -- the answer of a status that speaks of no field
 abbrev pub no_field : Status → FieldAnswer
 no_field s = record { status = code s; field = 0; cause = 0 }
-
--- the answer on a refusal
-abbrev pub refusal_answer : Refusal → FieldAnswer
-refusal_answer (refusal.Cause s) = no_field s
-refusal_answer (refusal.Invalid f) = field_answer f
 
 -- the strategy of a number
 abbrev pub ReadsBackpressure : ℕ → Option BackpressureStrategy → Type 0
