@@ -4,7 +4,7 @@ ghost use Rattle.iox2_config.specs.Hashing.{ReadsPattern};
 ghost use Rattle.iox2sd_common.specs.Settings.{c_blackboard};
 ghost use Rattle.iox2sd_common.specs.ReadSettings.{field_status, field_answer};
 ghost use Rattle.iox2sd_common.specs.ReadSettings.{no_field, ReadsBackpressure, ReadsAllocation};
-ghost use Rattle.iox2sd_common.specs.ReadSettings.{ReadsDuration, ReadsDeadline, ReadsEventId};
+ghost use Rattle.iox2sd_common.specs.ReadSettings.{ReadsDuration, ReadsDeadline, given_event_id};
 ghost use Rattle.iox2sd_common.specs.ReadSettings.{ReadsPublishSubscribe, ReadsEvent};
 ghost use Rattle.iox2sd_common.specs.ReadSettings.{ReadsRequestResponse, ReadsGlobal};
 
@@ -151,7 +151,7 @@ fn read_deadline(given: &OptionalDuration) -> Result<Option<Duration>, Field>
 
 /// The number of the event, if there is one.
 fn read_event_id(given: &OptionalEventId) -> Option<usize>
-    ensures { ReadsEventId given.now result }
+    ensures { result ≡ given_event_id given.now }
 {
     if given.is_some {
         Some(given.number)

@@ -10,6 +10,7 @@ ghost use Rattle.iox2sd_common.specs.ReadSettings.{ReadsRequestResponse};
 ghost use Rattle.iox2sd_values.specs.Settings.{ReportsGlobalDefaults, checked, ChecksBy};
 
 use iox2_config::config::{Blackboard, Event, Node, PublishSubscribe, RequestResonse, Service};
+use iox2sd_common::given_or_return;
 use iox2sd_common::read_settings::{
     Field, FieldAnswer, no_field, read_event, read_global, read_publish_subscribe,
     read_request_response,
@@ -87,9 +88,7 @@ pub extern "C" fn iox2sd_publish_subscribe_settings_check_at(
 ) -> FieldAnswer
     ensures { ChecksBy ReadsPublishSubscribe settings.now result }
 {
-    let [settings, ..] = settings else {
-        return no_field(Status::Null);
-    };
+    let settings = given_or_return!(settings, no_field(Status::Null));
     checked(read_publish_subscribe(settings))
 }
 
@@ -101,9 +100,7 @@ pub extern "C" fn iox2sd_publish_subscribe_settings_check_at(
 pub extern "C" fn iox2sd_event_settings_check_at(settings: &[EventSettings]) -> FieldAnswer
     ensures { ChecksBy ReadsEvent settings.now result }
 {
-    let [settings, ..] = settings else {
-        return no_field(Status::Null);
-    };
+    let settings = given_or_return!(settings, no_field(Status::Null));
     checked(read_event(settings))
 }
 
@@ -115,9 +112,7 @@ pub extern "C" fn iox2sd_request_response_settings_check_at(
 ) -> FieldAnswer
     ensures { ChecksBy ReadsRequestResponse settings.now result }
 {
-    let [settings, ..] = settings else {
-        return no_field(Status::Null);
-    };
+    let settings = given_or_return!(settings, no_field(Status::Null));
     checked(read_request_response(settings))
 }
 
@@ -129,8 +124,6 @@ pub extern "C" fn iox2sd_request_response_settings_check_at(
 pub extern "C" fn iox2sd_global_settings_check_at(settings: &[GlobalSettings]) -> FieldAnswer
     ensures { ChecksBy ReadsGlobal settings.now result }
 {
-    let [settings, ..] = settings else {
-        return no_field(Status::Null);
-    };
+    let settings = given_or_return!(settings, no_field(Status::Null));
     checked(read_global(settings))
 }

@@ -1,4 +1,4 @@
-use Rattle.std.proofs.Common.{codes, refl}
+use Rattle.iox2sd_values.proofs.Prelude.{codes, refl}
 use Rattle.iox2_config.specs.Defaults.{default_service, default_node}
 use Rattle.iox2_config.specs.GlobalSettings.{GlobalSettings}
 use Rattle.iox2sd_values.proofs.settings.iox2sd_global_defaults.Goals as goal
