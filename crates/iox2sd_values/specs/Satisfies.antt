@@ -127,8 +127,8 @@ ComparesFixed fixed unmet s r answer = answer ≡ satisfied (unmet (fixed s) (fi
 -- of publish-subscribe services
 abbrev pub SatisfiesPublishSubscribe : List PublishSubscribeConfig → List PublishSubscribeConfig
     → FieldAnswer → Type 0
-SatisfiesPublishSubscribe = SatisfiesBy
-    (ComparesFixed fixed_publish_subscribe (λ s r. first_unmet (publish_subscribe_requirements s r)))
+SatisfiesPublishSubscribe = SatisfiesBy (ComparesFixed fixed_publish_subscribe
+    (λ s r. first_unmet (publish_subscribe_requirements s r)))
 
 -- of event services
 abbrev pub SatisfiesEvent : List EventConfig → List EventConfig → FieldAnswer → Type 0
@@ -137,8 +137,8 @@ SatisfiesEvent = SatisfiesBy ComparesEvents
 -- of request-response services
 abbrev pub SatisfiesRequestResponse : List RequestResponseConfig → List RequestResponseConfig
     → FieldAnswer → Type 0
-SatisfiesRequestResponse = SatisfiesBy
-    (ComparesFixed fixed_request_response (λ s r. first_unmet (request_response_requirements s r)))
+SatisfiesRequestResponse = SatisfiesBy (ComparesFixed fixed_request_response
+    (λ s r. first_unmet (request_response_requirements s r)))
 
 -- of blackboard services
 abbrev pub SatisfiesBlackboard : List BlackboardConfig → List BlackboardConfig → FieldAnswer

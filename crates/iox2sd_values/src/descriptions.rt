@@ -313,9 +313,8 @@ fn publish_subscribe_pattern(settings: &PublishSubscribeSettings) -> Result<Mess
     ensures { MakesPublishSubscribe settings.now result }
 {
     let settings = read_publish_subscribe(settings)?;
-    Ok(MessagingPattern::PublishSubscribe(publish_subscribe::StaticConfig::with_settings(
-        &settings,
-    )))
+    let config = publish_subscribe::StaticConfig::with_settings(&settings);
+    Ok(MessagingPattern::PublishSubscribe(config))
 }
 
 /// Describes a publish-subscribe service. Its name may be one of the system's own where `internal`
@@ -339,13 +338,8 @@ pub extern "C" fn iox2sd_describe_publish_subscribe_at(
     ensures cause { NameCause internal name.now result.status result.cause }
 {
     let settings = given_or_return!(settings, no_field(Status::Null));
-    describe_as(
-        &publish_subscribe_pattern(settings),
-        name,
-        internal,
-        id,
-        out,
-    )
+    let pattern = publish_subscribe_pattern(settings);
+    describe_as(&pattern, name, internal, id, out)
 }
 
 /// The pattern of an event service with these settings, or the first invalid field.

@@ -104,14 +104,11 @@ pub extern "C" fn iox2sd_type_detail_check_at(part: &[Part<'_>]) -> u32
     }
 }
 
-/// The type of this part, or what is wrong with it.
-fn read_as(which: Which, part: &Part<'_>) -> Result<TypeDetail, Fault>
-    ensures { ReadsAs which part.now result }
+/// The type of this part of a message, or what is wrong with it.
+fn read_as(part: Which, details: &Part<'_>) -> Result<TypeDetail, Fault>
+    ensures { ReadsAs part details.now result }
 {
-    read_part(part).map_err(|status| Fault {
-        part: which,
-        status,
-    })
+    read_part(details).map_err(|status| Fault { part, status })
 }
 
 /// The types of all parts, or what is wrong with the first invalid part.

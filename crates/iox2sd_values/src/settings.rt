@@ -29,11 +29,8 @@ use std::time::Duration;
 pub extern "C" fn iox2sd_global_defaults() -> GlobalSettings
     ensures { ReportsGlobalDefaults result }
 {
-    global_with(
-        Duration::from_millis(500),
-        &Service::default(),
-        &Node::default(),
-    )
+    let timeout = Duration::from_millis(500);
+    global_with(timeout, &Service::default(), &Node::default())
 }
 
 /// The settings that a publish-subscribe service gets by default.
