@@ -1,17 +1,14 @@
 -- What a search by halves finds among sorted ports.
-use Rattle.std.proofs.Common.{◌≡◌, ℕ, ◌==◌, ◌<◌, ◌≤◌, Bool, true, false, true≢false, IsTrue, List, Result, Ok, Err, length, get_or, sym, inl, inr, arith}
-use Rattle.std.specs.Prelude.{◌&&◌, if◌then◌else◌}
+use Rattle.iox2sd.proofs.Names.{AreSorted, Bool, Err, IsNonDecreasingBy-from_all_adjacent, IsTrue, List, Ok, PortId, Result, arith, false, get_or, id_of, if◌then◌else◌, inl, inr, is_at_most, is_kept, length, number_of, order_at, sym, true, true≢false, ℕ, ◌&&◌, ◌<◌, ◌==◌, ◌≡◌, ◌≤◌}
+use Rattle.std.proofs.lemmas.Bool.{cases_lt}
 use Rattle.std.specs.List.{IsAllAdjacentAnswer}
 use Rattle.std.specs.List.Sorted.{IsSearchInRange, IsBinarySearchResult}
 use Rattle.std.specs.Ordering.{is_le, nat_cmp, ordering_index}
 use Rattle.std.specs.Result.{is_ok}
 use Rattle.std.specs.declared.cmp.Ordering.TheVariants.{Less, Equal, Greater}
 use Rattle.std.proofs.lemmas.Bool.Decides.{nat_tests}
-use Rattle.std.proofs.lemmas.Bool.{cases_lt}
 use Rattle.std.proofs.lemmas.List.Elements.{All-from_get_or}
 use Rattle.std.proofs.lemmas.List.Folds.{list_any_at, list_any_none}
-use Rattle.std.proofs.lemmas.List.Sorted.{IsNonDecreasingBy-from_all_adjacent}
-use Rattle.iox2sd.proofs.Names.{AreSorted, is_at_most, is_kept, number_of, order_at, id_of, PortId}
 
 -- a port that no list has
 none : PortId

@@ -1,7 +1,7 @@
 -- An object whose service was not changed has not changed.
-use Rattle.std.proofs.Common.{◌≡◌, List, [], ◌∷◌, Some, ap, refl, slice_index_or, slice_set, sym}
-use Rattle.iox2_dynamic.specs.Service.{Service as Held}
+use Rattle.iox2sd.proofs.Names.{List, Some, [], ap, refl, slice_index_or, slice_set, sym, ◌∷◌, ◌≡◌}
 use Rattle.iox2sd.specs.Lending.{with_held}
+use Rattle.iox2_dynamic.specs.Service.{Service as Held}
 use Rattle.iox2sd.specs.Objects.{held}
 use Rattle.iox2sd.specs.declared.service.Service.{Service}
 

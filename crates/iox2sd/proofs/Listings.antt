@@ -1,18 +1,16 @@
 -- Listings by a callback that puts what it is shown into an array, and by one that also counts it.
-use Rattle.std.proofs.Common.{◌≡◌, ◌↔◌, ◌∙◌, true≢false, IsTrue, Bool, true, false, ℕ, ◌<◌, ◌≤◌, Option, Some, None, List, [], ◌∷◌, ◌++◌, map, length, refl, sym, ap, subst, inl, inr, arith, slice_set, ◌+◌, add-one, suc}
+use Rattle.iox2sd.proofs.Names.{Bool, ContainerState, CountsIn, Entry, Id, IfNone, IfSome, IsTrue, LacksRole, List, ListsIn, None, Option, PatternKind, Port, PortDetails, Ports, Role, Service, Some, Visit, [], add-one, ap, arith, count_by-le-length, details_where, drop, false, filter, first_role, id_of, if◌then◌else◌, inl, inr, is_of, length, length-filter, listed, map, node_of, ports_of_node, refl, role_at, roles_differ, second_role, slice_set, subst, suc, sym, true, true≢false, ℕ, ◌++◌, ◌+◌, ◌<◌, ◌^◌, ◌↔◌, ◌∙◌, ◌∷◌, ◌≡◌, ◌≤◌}
+use Rattle.iox2sd.specs.Ports.{c_port}
+use Rattle.iox2sd.specs.Listings.{Counts, ListsAll, NeedsMore, Notes, NotesAll, NotesOfRole, PortsOf, Puts, PutsAll, PutsAt, Stand, nodes_in, ports_in, ports_of_kind}
+use Rattle.iox2_texts.specs.declared.bounded.callback_progression.CallbackProgression.TheVariants.{Continue, Stop}
+use Rattle.iox2_texts.specs.declared.bounded.callback_progression.CallbackProgression.{CallbackProgression}
+use Rattle.iox2_texts.specs.Attribute.{Visits}
 use Rattle.std.specs.Bool.{beq}
 use Rattle.std.specs.Option.{option_eq}
-use Rattle.std.specs.Prelude.{IfNone, IfSome, drop, ◌^◌, filter, if◌then◌else◌}
-use Rattle.iox2_config.specs.declared.hash.input.PatternKind.{PatternKind}
 use Rattle.iox2_dynamic.specs.PortsState.{side_of}
-use Rattle.iox2_dynamic.specs.Service.{LacksRole, role_at}
 use Rattle.std.proofs.lemmas.List.{append-nil, append_assoc, length-append, length-map, length-set, map-append}
 use Rattle.std.proofs.Math.Seq.{set-append_seam, drop-cons}
-use Rattle.iox2sd.proofs.Names.{Visits, CallbackProgression, Continue, Stop, ContainerState, Entry, Role, Visit, listed, PortDetails, CountsIn, Service, first_role, second_role, id_of, Puts, PutsAll, ListsAll, NeedsMore, ports_in, ports_of_kind, nodes_in, PortsOf, Id, c_port, Port, details_where, is_of, node_of, ListsIn, Ports, ports_of_node}
-use Rattle.iox2sd.specs.Listings.{Counts, PutsAt, Stand, Notes, NotesAll, NotesOfRole}
 use Rattle.iox2_container.specs.Mapped.{entry_as, container_as}
-use Rattle.iox2_dynamic.proofs.Rooms.{roles_differ}
-use Rattle.std.proofs.lemmas.List.Sums.{count_by-le-length, length-filter}
 use Rattle.iox2_container.proofs.ListEdits.{filter-map}
 
 puts_all : {A : Type 0} (before : List A × ℕ) (items : List A) (after : List A × ℕ)

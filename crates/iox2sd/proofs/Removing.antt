@@ -1,14 +1,10 @@
 -- No port comes by the removal of a dead node.
-use Rattle.std.proofs.Common.{◌≡◌, ◌≤◌, ◌-◌, ℕ, Bool, List, length, sym, ap, arith}
-use Rattle.std.specs.Prelude.{not}
-use Rattle.std.proofs.lemmas.List.Sums.{count_by-le-length, length-filter}
+use Rattle.iox2sd.proofs.Names.{Bool, ContainerState, Entry, Keeps, List, PortDetails, PortId, Service, Went, ap, arith, count_by-le-length, counted, is_leaving, is_of, length, length-filter, node_of, not, sym, ℕ, ◌-◌, ◌≡◌, ◌≤◌}
 use Rattle.iox2_ids.specs.declared.identifiers.port_id.UniquePortId.{UniquePortId}
-use Rattle.iox2sd.proofs.Names.{Entry, ContainerState, is_leaving, is_of, PortDetails, node_of, Service, Keeps, Went, PortId}
 use Rattle.iox2_dynamic.specs.declared.dynamic_config.answers.DeregisterNodeState.{DeregisterNodeState}
 use Rattle.iox2_dynamic.specs.declared.dynamic_config.cleanup.PortCleanupAction.{PortCleanupAction}
 use Rattle.iox2_dynamic.specs.Recoveries.{RecoversPorts}
 use Rattle.iox2_dynamic.specs.Steps.{DeadStep}
-use Rattle.iox2sd.specs.DeadNodes.{counted}
 use Rattle.iox2sd.specs.declared.service.roles.Counts.{Counts}
 
 recovered_fewer : {F : Type 0} (calls : F → UniquePortId → PortCleanupAction → F → Type 0)

@@ -1,8 +1,5 @@
 -- How many ports of each of a pattern's two kinds there are.
-use Rattle.std.proofs.Common.{◌≡◌, ◌∙◌, ℕ, Some, length, sym, inl, inr}
-use Rattle.iox2_config.specs.declared.hash.input.PatternKind.{PatternKind}
-use Rattle.iox2sd.proofs.Names.{Role, Ports, CountsIn, first_role, second_role}
-use Rattle.iox2_dynamic.proofs.Rooms.{roles_differ}
+use Rattle.iox2sd.proofs.Names.{CountsIn, PatternKind, Ports, Role, Some, first_role, inl, inr, length, roles_differ, second_role, sym, ℕ, ◌∙◌, ◌≡◌}
 
 pub first_count : (pattern : PatternKind) (p : Ports) (role : Role) (n : ℕ)
     → CountsIn (first_role pattern) (second_role pattern) p role (Some n)

@@ -8,7 +8,7 @@ use Rattle.iox2_dynamic.specs.declared.dynamic_config.answers.RegisterNodeResult
 use Rattle.iox2_dynamic.specs.Service.{Service as Held}
 use Rattle.iox2sd.specs.Answers.{handle_answer}
 use Rattle.iox2sd.specs.Ports.{c_handle, ReadsHandle, AttachesPort}
-use Rattle.iox2sd.specs.Objects.{At, Nothing}
+use Rattle.iox2sd.specs.Objects.{At}
 use Rattle.iox2sd.specs.declared.service.Service.{Service}
 use Rattle.iox2sd_common.specs.declared.status.Status.TheVariants as status
 
@@ -56,4 +56,4 @@ Releases handle old _ new = ⊥
 abbrev pub AttachesAt : List Port → List Service → HandleAnswer → List Service → Type 0
 AttachesAt [] old answer new = (answer ≡ handle_answer (Err status.Null)) × (new ≡ old)
 AttachesAt (port ∷ others) old answer new =
-    At handle_answer Err Nothing (AttachesPort port) old answer new
+    At handle_answer Err (AttachesPort port) old answer new

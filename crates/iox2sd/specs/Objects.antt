@@ -1,5 +1,5 @@
 -- The objects of services in a caller's memory, and calls at them.
-use Rattle.std.specs.Prelude.{◌≡◌, Option, Some, None, List, [], ◌∷◌, is_some}
+use Rattle.std.specs.Prelude.{◌≡◌, Option, Some, None, List, [], ◌∷◌, is_some, Result, Err}
 use Rattle.iox2_dynamic.specs.Service.{Service as Held}
 use Rattle.iox2sd.specs.declared.service.Service.{Service}
 use Rattle.iox2sd_common.specs.declared.status.Status.{Status}
@@ -13,27 +13,23 @@ IsSoundObject object = object.full ≡ is_some object.slot.service
 abbrev pub held : Service → Option Held
 held object = object.slot.service
 
--- nothing else of the caller's memory may change
-abbrev pub Nothing : Type 0
-Nothing = Unit {0}
-
 -- a call that changes the service that is held went by the table, and the answer is what it made;
--- where none is held, the answer says so, and the rest of the caller's memory is as it was
-abbrev pub Called : {M R : Type 0} → (M → R) → (Status → M) → Type 0 → (Held → M → Held → Type 0)
+-- where none is held, the answer says so
+abbrev pub Called : {M R : Type 0} → (M → R) → (Status → M) → (Held → M → Held → Type 0)
     → Option Held → R → Option Held → Type 0
-Called form refuse Rest Table None answer new = (answer ≡ form (refuse status.NoService))
-    × (new ≡ None) × Rest
-Called {M} form refuse Rest Table (Some old) answer new =
+Called form refuse Table None answer new =
+    (answer ≡ form (refuse status.NoService)) × (new ≡ None)
+Called {M} form refuse Table (Some old) answer new =
     (made : M) × (answer ≡ form made) × (after : Held) × (new ≡ Some after) × Table old made after
 
 -- the same at an object that may be NULL, which is reported before all else. The object is sound
 -- afterwards, and no other object has changed
-abbrev pub At : {M R : Type 0} → (M → R) → (Status → M) → Type 0 → (Held → M → Held → Type 0)
+abbrev pub At : {M R : Type 0} → (M → R) → (Status → M) → (Held → M → Held → Type 0)
     → List Service → R → List Service → Type 0
-At form refuse Rest Table [] answer new = (answer ≡ form (refuse status.Null)) × (new ≡ []) × Rest
-At form refuse Rest Table (object ∷ others) answer new =
+At form refuse Table [] answer new = (answer ≡ form (refuse status.Null)) × (new ≡ [])
+At form refuse Table (object ∷ others) answer new =
     (left : Service) × (new ≡ left ∷ others) × IsSoundObject left
-    × Called form refuse Rest Table (held object) answer (held left)
+    × Called form refuse Table (held object) answer (held left)
 
 -- the answer to a question is what it says of the service that is held; where none is held, the
 -- answer says so, and the rest of the caller's memory is as it was
@@ -49,3 +45,8 @@ abbrev pub AnswersQuery : {M R : Type 0} → (M → R) → (Status → M) → Ty
 AnswersQuery form refuse Rest Says [] answer = (answer ≡ form (refuse status.Null)) × Rest
 AnswersQuery form refuse Rest Says (object ∷ others) answer =
     AnswersQueryOf form refuse Rest Says (held object) answer
+
+-- the answer to a question that has nothing beside it, or why there is none
+abbrev pub Asks : {M R : Type 0} → (Result M Status → R) → (Held → Result M Status → Type 0)
+    → List Service → R → Type 0
+Asks form Says objects answer = AnswersQuery form Err (Unit {0}) Says objects answer

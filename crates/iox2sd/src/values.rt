@@ -16,8 +16,29 @@ use iox2_dynamic::dynamic_config::{
 use iox2sd_common::id::Id;
 use iox2sd_common::status::Status;
 
-/// The role of a handle that stands for nothing.
-const NO_ROLE: u64 = u64::MAX;
+/// The handle that stands for nothing: its role is that of no entry.
+const NO_HANDLE: Handle = Handle {
+    service: 0,
+    role: u64::MAX,
+    slot: 0,
+    ticket: 0,
+};
+
+/// The answer with what was found in this field, or with the status of an error and this value.
+macro_rules! answer_with {
+    ($answer:ident { $field:ident } or $nothing:expr, $found:expr) => {
+        match $found {
+            Ok($field) => $answer {
+                status: Status::Done.code(),
+                $field,
+            },
+            Err(status) => $answer {
+                status: status.code(),
+                $field: $nothing,
+            },
+        }
+    };
+}
 
 /// What registering and attaching give, and what a call by handle is given. It has no padding, so C
 /// may compare its bytes.
@@ -256,21 +277,7 @@ impl HandleAnswer {
         ensures answer { result ≡ handle_answer made }
         ensures refused { IfErr made (λ _. ReadsHandle result.handle None) }
     {
-        match made {
-            Ok(handle) => HandleAnswer {
-                status: Status::Done.code(),
-                handle,
-            },
-            Err(status) => HandleAnswer {
-                status: status.code(),
-                handle: Handle {
-                    service: 0,
-                    role: NO_ROLE,
-                    slot: 0,
-                    ticket: 0,
-                },
-            },
-        }
+        answer_with!(HandleAnswer { handle } or NO_HANDLE, made)
     }
 }
 
@@ -289,16 +296,7 @@ impl NumberAnswer {
     pub(crate) fn of(found: Result<u64, Status>) -> NumberAnswer
         ensures { result ≡ number_answer found }
     {
-        match found {
-            Ok(number) => NumberAnswer {
-                status: Status::Done.code(),
-                number,
-            },
-            Err(status) => NumberAnswer {
-                status: status.code(),
-                number: 0,
-            },
-        }
+        answer_with!(NumberAnswer { number } or 0, found)
     }
 }
 
@@ -358,16 +356,7 @@ impl IdAnswer {
     pub(crate) fn of(found: Result<Id, Status>) -> IdAnswer
         ensures { result ≡ id_answer found }
     {
-        match found {
-            Ok(id) => IdAnswer {
-                status: Status::Done.code(),
-                id,
-            },
-            Err(status) => IdAnswer {
-                status: status.code(),
-                id: Id::default(),
-            },
-        }
+        answer_with!(IdAnswer { id } or Id::default(), found)
     }
 }
 
@@ -387,16 +376,7 @@ impl PortAnswer {
     pub(crate) fn of(found: Result<Port, Status>) -> PortAnswer
         ensures { result ≡ port_answer found }
     {
-        match found {
-            Ok(port) => PortAnswer {
-                status: Status::Done.code(),
-                port,
-            },
-            Err(status) => PortAnswer {
-                status: status.code(),
-                port: Port::default(),
-            },
-        }
+        answer_with!(PortAnswer { port } or Port::default(), found)
     }
 }
 

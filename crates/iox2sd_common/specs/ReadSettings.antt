@@ -1,12 +1,10 @@
 -- Settings that a caller filled, as the layer has them, or the first field that is invalid.
-use Rattle.std.specs.Prelude.{◌≡◌, ℕ, ◌+◌, ◌*◌, ◌<◌, ◌≤◌, true, false, Option, Some, None, Result, Ok, Err}
+use Rattle.std.specs.Prelude.{◌≡◌, ℕ, ◌+◌, ◌*◌, ◌<◌, ◌≤◌, true, false, if◌then◌else◌, Option, Some, None, Result, Ok, Err}
 use Rattle.iox2sd_common.specs.Settings.{AllocationStrategy, BackpressureStrategy, Blackboard, BlackboardSettings, Duration, Event, EventSettings, OptionalDuration, OptionalEventId, PlainDuration, PublishSubscribe, PublishSubscribeSettings, RequestResonse, RequestResponseSettings, allocation_number, as_nanos, backpressure_number, c_blackboard, c_publish_subscribe, c_request_response}
 use Rattle.iox2sd_common.specs.Status.{OfNumber, code}
 use Rattle.iox2sd_common.specs.declared.read_settings.Field.{Field}
 use Rattle.iox2sd_common.specs.declared.read_settings.Field.TheVariants as field
 use Rattle.iox2sd_common.specs.declared.read_settings.FieldAnswer.{FieldAnswer}
-use Rattle.iox2sd_common.specs.declared.read_settings.Refusal.{Refusal}
-use Rattle.iox2sd_common.specs.declared.read_settings.Refusal.TheVariants as refusal
 use Rattle.iox2sd_common.specs.declared.settings.GlobalSettings.{GlobalSettings}
 use Rattle.iox2sd_common.specs.declared.status.Status.{Status}
 use Rattle.iox2sd_common.specs.declared.status.Status.TheVariants as status
@@ -35,11 +33,6 @@ field_answer f = record { status = code (field_status f); field = field_number f
 -- the answer of a status that speaks of no field
 abbrev pub no_field : Status → FieldAnswer
 no_field s = record { status = code s; field = 0; cause = 0 }
-
--- the answer on a refusal
-abbrev pub refusal_answer : Refusal → FieldAnswer
-refusal_answer (refusal.Cause s) = no_field s
-refusal_answer (refusal.Invalid f) = field_answer f
 
 -- the strategy of a number
 abbrev pub ReadsBackpressure : ℕ → Option BackpressureStrategy → Type 0
@@ -77,9 +70,8 @@ ReadsDeadline given (Err field.Deadline) =
 ReadsDeadline given (Err _) = ⊥
 
 -- the number of an event, if there is one: where the flag says that there is none, it is ignored
-abbrev pub ReadsEventId : OptionalEventId → Option ℕ → Type 0
-ReadsEventId given (Some number) = (given.is_some ≡ true) × (number ≡ given.number)
-ReadsEventId given None = given.is_some ≡ false
+abbrev pub given_event_id : OptionalEventId → Option ℕ
+given_event_id given = if given.is_some then Some given.number else None
 
 -- the settings of a publish-subscribe service
 abbrev pub ReadsPublishSubscribe : PublishSubscribeSettings → Result PublishSubscribe Field → Type 0
@@ -97,9 +89,11 @@ pub record ReadsEventAs (s : EventSettings) (made : Event) : Type 0 where
   pub max_nodes : made.max_nodes ≡ s.max_nodes
   pub event_id_max_value : made.event_id_max_value ≡ s.event_id_max_value
   pub deadline : ReadsDeadline s.deadline (Ok made.deadline)
-  pub notifier_created_event : ReadsEventId s.notifier_created_event made.notifier_created_event
-  pub notifier_dropped_event : ReadsEventId s.notifier_dropped_event made.notifier_dropped_event
-  pub notifier_dead_event : ReadsEventId s.notifier_dead_event made.notifier_dead_event
+  pub notifier_created_event :
+    made.notifier_created_event ≡ given_event_id s.notifier_created_event
+  pub notifier_dropped_event :
+    made.notifier_dropped_event ≡ given_event_id s.notifier_dropped_event
+  pub notifier_dead_event : made.notifier_dead_event ≡ given_event_id s.notifier_dead_event
 
 -- the settings of an event service
 abbrev pub ReadsEvent : EventSettings → Result Event Field → Type 0

@@ -1,9 +1,21 @@
-//! What exports return beside a status: its cause, an index, a count, or a text for a buffer.
+//! What exports return beside a status: its cause, an index, a count, or a text for a buffer; and
+//! how they take a struct that the caller may not have given.
 ghost use Rattle.std.specs.Prelude.{◌≡◌, ◌≤◌, ◌++◌, length, drop};
 ghost use Rattle.iox2sd_common.specs.Answers.{place_answer, count_answer, text_answer, Writes};
-ghost use Rattle.iox2sd_common.specs.Answers.{Written, c_count, flag_answer, zero_padded};
+ghost use Rattle.iox2sd_common.specs.Answers.{Written, c_count, fit_status, flag_answer, zero_padded};
 
 use super::status::Status;
+
+/// The struct that the caller gave. Where it gave NULL, the export returns this answer.
+#[macro_export]
+macro_rules! given_or_return {
+    ($given:expr, $null:expr) => {{
+        let [given, ..] = $given else {
+            return $null;
+        };
+        given
+    }};
+}
 
 /// An index in what the caller passed.
 #[repr(C)]
@@ -145,18 +157,24 @@ pub fn put<T: Copy>(items: &[T], out: &mut [T]) -> bool
     true
 }
 
+/// The status of what fits a buffer, or does not.
+pub fn fit_status(fits: bool) -> Status
+    ensures { result ≡ fit_status fits }
+{
+    if fits {
+        Status::Done
+    } else {
+        Status::BufferTooShort
+    }
+}
+
 /// Writes the text to the front of the buffer, or nothing where it does not fit, and returns its
 /// length.
 pub fn write(text: &[u8], out: &mut [u8]) -> TextAnswer
     ensures { Written text.now out.old result out.new }
 {
-    let status = if put(text, out) {
-        Status::Done
-    } else {
-        Status::BufferTooShort
-    };
     TextAnswer {
-        status: status.code(),
+        status: fit_status(put(text, out)).code(),
         cause: 0,
         length: text.len(),
     }

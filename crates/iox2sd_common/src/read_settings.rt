@@ -3,9 +3,9 @@ ghost use Rattle.std.specs.Prelude.{◌≡◌};
 ghost use Rattle.iox2_config.specs.Hashing.{ReadsPattern};
 ghost use Rattle.iox2sd_common.specs.Settings.{c_blackboard};
 ghost use Rattle.iox2sd_common.specs.ReadSettings.{field_status, field_answer};
-ghost use Rattle.iox2sd_common.specs.ReadSettings.{no_field, refusal_answer, ReadsBackpressure};
-ghost use Rattle.iox2sd_common.specs.ReadSettings.{ReadsAllocation, ReadsDuration, ReadsDeadline};
-ghost use Rattle.iox2sd_common.specs.ReadSettings.{ReadsEventId, ReadsPublishSubscribe, ReadsEvent};
+ghost use Rattle.iox2sd_common.specs.ReadSettings.{no_field, ReadsBackpressure, ReadsAllocation};
+ghost use Rattle.iox2sd_common.specs.ReadSettings.{ReadsDuration, ReadsDeadline, given_event_id};
+ghost use Rattle.iox2sd_common.specs.ReadSettings.{ReadsPublishSubscribe, ReadsEvent};
 ghost use Rattle.iox2sd_common.specs.ReadSettings.{ReadsRequestResponse, ReadsGlobal};
 
 use super::settings::{
@@ -91,47 +91,6 @@ pub fn no_field(status: Status) -> FieldAnswer
     }
 }
 
-/// Why nothing is made of settings.
-#[derive(Clone, Copy)]
-pub enum Refusal {
-    /// For this cause.
-    Cause(Status),
-    /// This field of the settings is invalid.
-    Invalid(Field),
-}
-
-impl From<Status> for Refusal {
-    ghost use Rattle.iox2sd_common.specs.declared.read_settings.Refusal.{Refusal};
-
-    ghost from_gives = { λ status refusal. refusal ≡ Refusal.Cause status };
-
-    fn from(status: Status) -> Self {
-        Refusal::Cause(status)
-    }
-}
-
-impl From<Field> for Refusal {
-    ghost use Rattle.iox2sd_common.specs.declared.read_settings.Refusal.{Refusal};
-
-    ghost from_gives = { λ field refusal. refusal ≡ Refusal.Invalid field };
-
-    fn from(field: Field) -> Self {
-        Refusal::Invalid(field)
-    }
-}
-
-impl Refusal {
-    /// The answer that says so.
-    pub fn answer(self) -> FieldAnswer
-        ensures { result ≡ refusal_answer self }
-    {
-        match self {
-            Refusal::Cause(status) => no_field(status),
-            Refusal::Invalid(field) => field.answer(),
-        }
-    }
-}
-
 /// The messaging pattern of a number.
 pub fn pattern_of(number: u64) -> Option<PatternKind>
     ensures { ReadsPattern number result }
@@ -192,7 +151,7 @@ fn read_deadline(given: &OptionalDuration) -> Result<Option<Duration>, Field>
 
 /// The number of the event, if there is one.
 fn read_event_id(given: &OptionalEventId) -> Option<usize>
-    ensures { ReadsEventId given.now result }
+    ensures { result ≡ given_event_id given.now }
 {
     if given.is_some {
         Some(given.number)
@@ -207,13 +166,6 @@ pub fn read_publish_subscribe(
 ) -> Result<PublishSubscribe, Field>
     ensures { ReadsPublishSubscribe settings.now result }
 {
-    let Some(backpressure_strategy) = backpressure_of(settings.backpressure_strategy) else {
-        return Err(Field::BackpressureStrategy);
-    };
-    let Some(publisher_allocation_strategy) = allocation_of(settings.publisher_allocation_strategy)
-    else {
-        return Err(Field::PublisherAllocationStrategy);
-    };
     Ok(PublishSubscribe {
         max_subscribers: settings.max_subscribers,
         max_publishers: settings.max_publishers,
@@ -223,9 +175,13 @@ pub fn read_publish_subscribe(
         publisher_max_loaned_samples: settings.publisher_max_loaned_samples,
         publisher_history_size: settings.publisher_history_size,
         enable_safe_overflow: settings.enable_safe_overflow,
-        backpressure_strategy,
+        backpressure_strategy: backpressure_of(settings.backpressure_strategy).ok_or(
+            Field::BackpressureStrategy,
+        )?,
         subscriber_expired_connection_buffer: settings.subscriber_expired_connection_buffer,
-        publisher_allocation_strategy,
+        publisher_allocation_strategy: allocation_of(settings.publisher_allocation_strategy).ok_or(
+            Field::PublisherAllocationStrategy,
+        )?,
     })
 }
 
@@ -259,20 +215,6 @@ pub fn read_event(settings: &EventSettings) -> Result<Event, Field>
 pub fn read_request_response(settings: &RequestResponseSettings) -> Result<RequestResonse, Field>
     ensures { ReadsRequestResponse settings.now result }
 {
-    let Some(client_backpressure_strategy) = backpressure_of(settings.client_backpressure_strategy)
-    else {
-        return Err(Field::ClientBackpressureStrategy);
-    };
-    let Some(server_backpressure_strategy) = backpressure_of(settings.server_backpressure_strategy)
-    else {
-        return Err(Field::ServerBackpressureStrategy);
-    };
-    let Some(client_allocation_strategy) = allocation_of(settings.client_allocation_strategy) else {
-        return Err(Field::ClientAllocationStrategy);
-    };
-    let Some(server_allocation_strategy) = allocation_of(settings.server_allocation_strategy) else {
-        return Err(Field::ServerAllocationStrategy);
-    };
     Ok(RequestResonse {
         enable_safe_overflow_for_requests: settings.enable_safe_overflow_for_requests,
         enable_safe_overflow_for_responses: settings.enable_safe_overflow_for_responses,
@@ -284,13 +226,21 @@ pub fn read_request_response(settings: &RequestResponseSettings) -> Result<Reque
         max_borrowed_responses_per_pending_response: settings.max_borrowed_responses_per_pending_response,
         max_loaned_requests: settings.max_loaned_requests,
         server_max_loaned_responses_per_request: settings.server_max_loaned_responses_per_request,
-        client_backpressure_strategy,
-        server_backpressure_strategy,
+        client_backpressure_strategy: backpressure_of(settings.client_backpressure_strategy).ok_or(
+            Field::ClientBackpressureStrategy,
+        )?,
+        server_backpressure_strategy: backpressure_of(settings.server_backpressure_strategy).ok_or(
+            Field::ServerBackpressureStrategy,
+        )?,
         client_expired_connection_buffer: settings.client_expired_connection_buffer,
         server_expired_connection_buffer: settings.server_expired_connection_buffer,
         enable_fire_and_forget_requests: settings.enable_fire_and_forget_requests,
-        client_allocation_strategy,
-        server_allocation_strategy,
+        client_allocation_strategy: allocation_of(settings.client_allocation_strategy).ok_or(
+            Field::ClientAllocationStrategy,
+        )?,
+        server_allocation_strategy: allocation_of(settings.server_allocation_strategy).ok_or(
+            Field::ServerAllocationStrategy,
+        )?,
     })
 }
 

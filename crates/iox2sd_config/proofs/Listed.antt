@@ -1,13 +1,9 @@
 -- Where a file has a fault, the list of its faults has a first one.
-use Rattle.std.proofs.Common.{◌≡◌, ◌<◌, ℕ, List, [], ◌∷◌, Option, Some, None, length, sym, ap, arith}
-use Rattle.std.specs.Prelude.{slice_get}
-use Rattle.std.proofs.lemmas.List.{length-map}
-use Rattle.std.proofs.lemmas.List.Sorted.{length_permutation}
+use Rattle.iox2sd_config.proofs.Prelude.{List, ListsFaults, None, Option, Some, [], ap, arith, length, length-map, length_permutation, slice_get, sym, ℕ, ◌<◌, ◌∷◌, ◌≡◌}
 use Rattle.std.proofs.lemmas.Option.{same_Some}
 use Rattle.iox2_config.specs.declared.config.Config.{Config}
 use Rattle.iox2_config_file.specs.Answers.{IsConfigOf, ReportsFaults}
 use Rattle.iox2_config_file.specs.declared.fault.SettingFault.{SettingFault}
-use Rattle.iox2sd_config.specs.Files.{ListsFaults}
 use Rattle.iox2sd_config.specs.declared.fault.PlainFault.{PlainFault}
 use Rattle.toml.specs.Data.{Members}
 

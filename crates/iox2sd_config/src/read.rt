@@ -12,7 +12,7 @@ use crate::config::{PlainConfig, config_of};
 use crate::fault::{PlainFault, plain_fault, plain_unread, sort_key_at, unread_status};
 use config_report::{key_positions, parse_file, position_at};
 use iox2_config_file::{FileContents, SettingFault};
-use iox2sd_common::answers::{CountAnswer, count, put};
+use iox2sd_common::answers::{CountAnswer, count, fit_status, put};
 use iox2sd_common::status::Status;
 use std::alloc::{AllocError, Global};
 
@@ -164,11 +164,7 @@ pub extern "C" fn iox2sd_config_read_at(
 fn put_faults(listed: &[PlainFault], out: &mut [PlainFault]) -> CountAnswer
     ensures { PutsFaults listed.now out.old result out.new }
 {
-    if put(listed, out) {
-        count(Status::Done, listed.len())
-    } else {
-        count(Status::BufferTooShort, listed.len())
-    }
+    count(fit_status(put(listed, out)), listed.len())
 }
 
 /// Writes some faults of a text in its order, where they fit.

@@ -15,7 +15,8 @@ use crate::fault::{cut, key_path};
 use iox2_config::config::{Config, Defaults, Global, Node, Service};
 use iox2_config_file::{ConfigWriteError, write_config};
 use iox2_texts::paths::{FileName, Path};
-use iox2sd_common::answers::put;
+use iox2sd_common::answers::{fit_status, put};
+use iox2sd_common::given_or_return;
 use iox2sd_common::read_settings::{
     Field, read_blackboard, read_event, read_global, read_publish_subscribe, read_request_response,
 };
@@ -361,15 +362,7 @@ fn write_text(alloc: alloc::Global, config: &Config, out: &mut [u8]) -> WriteAns
     ensures { ReportsText config.now out.old result out.new }
 {
     match write_config(alloc, config) {
-        Ok(text) => {
-            let fits = put(text.as_bytes(), out);
-            let status = if fits {
-                Status::Done
-            } else {
-                Status::BufferTooShort
-            };
-            WriteAnswer::of(status, text.len())
-        }
+        Ok(text) => WriteAnswer::of(fit_status(put(text.as_bytes(), out)), text.len()),
         Err(ConfigWriteError::OutOfRange(misfit)) => {
             match key_path(alloc, misfit.section, misfit.key) {
                 Ok(path) => WriteAnswer::keyed(Status::NoTomlInteger, path.as_str()),
@@ -399,9 +392,7 @@ pub extern "C" fn iox2sd_config_write_at(
 ) -> WriteAnswer
     ensures { WritesConfig settings.now out.old result out.new }
 {
-    let [given, ..] = settings else {
-        return WriteAnswer::of(Status::Null, 0);
-    };
+    let given = given_or_return!(settings, WriteAnswer::of(Status::Null, 0));
     match read_given(given) {
         Ok(config) => write_text(alloc, &config, out),
         Err(unfit) => WriteAnswer::refused(unfit),

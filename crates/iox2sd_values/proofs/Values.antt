@@ -1,18 +1,9 @@
 -- How many values a key has in a caller's pairs.
-use Rattle.std.proofs.Common.{◌≡◌, ℕ, ◌+◌, ◌<◌, Bool, true, false, cond, List, [], ◌∷◌, map, ◌++◌, take, length, refl, arith, ap, sym, subst, ◌∙◌}
-use Rattle.std.specs.List.{count_by, filter}
-use Rattle.std.specs.Prelude.{IsPermutation, IsSorted}
+use Rattle.iox2sd_values.proofs.Prelude.{Attribute, Bool, IsListing, IsPermutation, IsPermutation-map, IsPermutation-sym, IsPermutation-trans, IsSorted, List, MakesOneSet, Pair, [], ap, arith, cond, count_by, false, filter, get_or-map, has_key, length, length-map, length_permutation, map, pair_cmp, pair_of, refl, subst, sum_by-IsPermutation, sym, take, true, values_of, ℕ, ◌++◌, ◌+◌, ◌<◌, ◌∙◌, ◌∷◌, ◌≡◌}
 use Rattle.std.proofs.Math.Seq.{take-append_seam}
 use Rattle.std.proofs.lemmas.List.Recursion.{is_count_by}
-use Rattle.std.proofs.lemmas.List.{get_or-map, length-map}
-use Rattle.std.proofs.lemmas.List.Sorted.{IsPermutation-map, IsPermutation-sym, IsPermutation-trans, length_permutation, sum_by-IsPermutation}
 use Rattle.std.proofs.lemmas.List.Sums.{length-filter}
-use Rattle.iox2_texts.specs.Attribute.{IsListing, has_key, values_of}
-use Rattle.iox2_texts.specs.Pair.{Pair, pair_cmp}
 use Rattle.iox2_texts.proofs.ListingLemmas.{listing_unique}
-use Rattle.iox2sd_values.specs.Attributes.{pair_of}
-use Rattle.iox2sd_values.specs.Laws.{MakesOneSet}
-use Rattle.iox2sd_values.specs.declared.attributes.Attribute.{Attribute}
 
 abbrev value_of : Pair → List ℕ
 value_of pair = pair.value

@@ -1,20 +1,10 @@
 -- The answer on what a set lacks, said of its listing.
-use Rattle.std.proofs.Common.{◌≡◌, ◌∙◌, ℕ, ◌<◌, Option, None, Some, List, [], ◌∷◌, map, length, get_or, refl, sym, ap, subst, arith}
-use Rattle.std.specs.Prelude.{◌↔◌, Any, Contains, IsPermutation, Ok, Err}
+use Rattle.iox2sd_values.proofs.Prelude.{Any, Attribute, Contains, Contains-Any, Contains-permutation, ContainsKey, Err, IsListing, IsPermutation, IsPermutation-sym, Judges, List, Misses-map, Misses-same, None, Ok, Option, Pair, ReportsOf, Some, [], ap, arith, get_or, get_or_default, get_or_from_slice_get, key_fault, least_missing, length, length-map, map, pair_of, place_answer, refl, subst, sym, text_of, ℕ, ◌<◌, ◌↔◌, ◌∙◌, ◌∷◌, ◌≡◌}
 use Rattle.std.proofs.Math.ListN.{get_or-map}
-use Rattle.std.proofs.lemmas.List.{get_or_default, length-map}
-use Rattle.std.proofs.lemmas.List.Sorted.{Contains-permutation, IsPermutation-sym}
-use Rattle.std.proofs.lemmas.Option.{get_or_from_slice_get}
-use Rattle.iox2_texts.specs.Attribute.{IsListing, ContainsKey}
-use Rattle.iox2_texts.specs.Pair.{Pair}
 use Rattle.iox2_texts.specs.Verify.{Finds, IsFirst, Misses}
 use Rattle.iox2_texts.specs.declared.attribute.verifier.AttributeVerificationError.TheVariants.{NonExistingKey, IncompatibleAttribute}
-use Rattle.iox2_texts.proofs.VerifyLemmas.{Contains-Any, Misses-map, Misses-same, key_fault, least_missing}
-use Rattle.iox2sd_common.specs.Answers.{place_answer}
 use Rattle.iox2sd_common.specs.declared.answers.PlaceAnswer.{PlaceAnswer}
 use Rattle.iox2sd_common.specs.declared.status.Status.TheVariants as status
-use Rattle.iox2sd_values.specs.Attributes.{Judges, ReportsOf, pair_of, text_of}
-use Rattle.iox2sd_values.specs.declared.attributes.Attribute.{Attribute}
 use Rattle.iox2sd_values.specs.declared.attributes.Key.{Key}
 use Rattle.iox2sd_values.proofs.Values.{the_set}
 

@@ -2,7 +2,7 @@
 use Rattle.std.specs.Prelude.{◌≡◌, ◌↔◌, ℕ, IsTrue, Option, Some, None, Err, length, Bool, List, [], ◌∷◌, Result, Ok}
 use Rattle.iox2_static.specs.declared.static_config.publish_subscribe.StaticConfig.{StaticConfig as PublishSubscribe}
 use Rattle.iox2_static.specs.declared.static_config.request_response.StaticConfig.{StaticConfig as RequestResponse}
-use Rattle.iox2sd_values.specs.Prelude.{BlackboardConfig, BlackboardSettings, EventConfig, EventSettings, Field, FieldAnswer, IllegalText, PatternKind, PublishSubscribeConfig, PublishSubscribeSettings, ReadsBlackboard, ReadsEvent, ReadsPattern, ReadsPublishSubscribe, ReadsRequestResponse, RequestResponseConfig, RequestResponseSettings, Status, blackboard_of, code, duration_of, event_of, no_field, pattern_number, refusal_answer, sha1_text}
+use Rattle.iox2sd_values.specs.Prelude.{BlackboardConfig, BlackboardSettings, EventConfig, EventSettings, Field, FieldAnswer, IllegalText, PatternKind, PublishSubscribeConfig, PublishSubscribeSettings, ReadsBlackboard, ReadsEvent, ReadsPattern, ReadsPublishSubscribe, ReadsRequestResponse, RequestResponseConfig, RequestResponseSettings, Status, blackboard_of, code, duration_of, event_of, field_answer, no_field, pattern_number, sha1_text}
 use Rattle.iox2_static.specs.Description.{Description, Describes}
 use Rattle.iox2_static.specs.MessagingPattern.{kind_of}
 use Rattle.iox2_static.specs.declared.static_config.messaging_pattern.MessagingPattern.{MessagingPattern}
@@ -20,8 +20,6 @@ use Rattle.iox2_static.specs.RequestResponse.{request_response_of}
 use Rattle.iox2sd_common.specs.Ids.{number_of}
 use Rattle.iox2sd_values.specs.Chunks.{publish_subscribe, request_response}
 use Rattle.iox2sd_values.specs.Names.{ReadsAnyName}
-use Rattle.iox2sd_common.specs.declared.read_settings.Refusal.{Refusal}
-use Rattle.iox2sd_common.specs.declared.read_settings.Refusal.TheVariants as refusal
 
 -- what is fixed of a publish-subscribe service, beside the types of its messages
 abbrev pub c_publish_subscribe : PublishSubscribe → PublishSubscribeConfig
@@ -129,22 +127,22 @@ DescribesBySha1 name id p made = Describes sha1_text (λ input. ⊥) name id p m
 -- the description of a service with this name and this pattern, as C sees it: the name is looked at
 -- first, then the pattern, and then the hash text
 abbrev pub DescribesAs : Result (List ℕ) Status → Result MessagingPattern Field → Id
-    → Result ServiceDescription Refusal → Type 0
-DescribesAs (Err cause) read id made = made ≡ Err (refusal.Cause cause)
-DescribesAs (Ok name) (Err field) id made = made ≡ Err (refusal.Invalid field)
+    → Result ServiceDescription FieldAnswer → Type 0
+DescribesAs (Err cause) read id made = made ≡ Err (no_field cause)
+DescribesAs (Ok name) (Err field) id made = made ≡ Err (field_answer field)
 DescribesAs (Ok name) (Ok p) id (Ok made) =
     (d : Description) × DescribesBySha1 name (number_of id) p (Ok d) × (made ≡ c_description d id)
-DescribesAs (Ok name) (Ok p) id (Err (refusal.Cause status.IllegalHash)) =
-    DescribesBySha1 name (number_of id) p (Err IllegalText)
-DescribesAs (Ok name) (Ok p) id (Err _) = ⊥
+DescribesAs (Ok name) (Ok p) id (Err answer) =
+    (answer ≡ no_field status.IllegalHash)
+    × DescribesBySha1 name (number_of id) p (Err IllegalText)
 
 -- the first place holds what was made, or is as it was
-abbrev pub Fills : List ServiceDescription → Result ServiceDescription Refusal → FieldAnswer
+abbrev pub Fills : List ServiceDescription → Result ServiceDescription FieldAnswer → FieldAnswer
     → List ServiceDescription → Type 0
 Fills [] made answer new = (answer ≡ no_field status.Null) × (new ≡ [])
 Fills (position ∷ rest) (Ok made) answer new =
     (answer ≡ no_field status.Done) × (new ≡ made ∷ rest)
-Fills (position ∷ rest) (Err r) answer new = (answer ≡ refusal_answer r) × (new ≡ position ∷ rest)
+Fills (position ∷ rest) (Err why) answer new = (answer ≡ why) × (new ≡ position ∷ rest)
 
 -- the same with the description of a service with this pattern. Its name may be one of the system's
 -- own where the flag says so
@@ -152,7 +150,7 @@ abbrev pub FillsOf : Result MessagingPattern Field → Bool → List ℕ → Id 
     → FieldAnswer → List ServiceDescription → Type 0
 FillsOf read internal bytes id old answer new =
     (name : Result (List ℕ) Status) × ReadsAnyName internal bytes name
-    × (made : Result ServiceDescription Refusal) × DescribesAs name read id made
+    × (made : Result ServiceDescription FieldAnswer) × DescribesAs name read id made
     × Fills old made answer new
 
 -- the same where there are settings, of which the pattern is made so

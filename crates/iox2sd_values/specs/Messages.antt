@@ -72,6 +72,11 @@ abbrev pub ChecksPart : List Part → ℕ → Type 0
 ChecksPart parts answer =
     OfGiven (code status.Null) (λ part. Returns end_code (ReadsPart part)) parts answer
 
+-- the type of this part, or what is wrong with it
+abbrev pub ReadsAs : Which → Part → Result TypeDetailParts Fault → Type 0
+ReadsAs which part (Ok made) = ReadsPart part (Ok made)
+ReadsAs which part (Err fault) = (fault.part ≡ which) × ReadsPart part (Err fault.status)
+
 -- the parts before the one that is wrong are types
 abbrev pub FailsIn : Details → Which → Status → Type 0
 FailsIn d which.Header cause = ReadsPart d.header (Err cause)
@@ -173,10 +178,6 @@ abbrev pub part_answer : Fault → ℕ → PartAnswer
 part_answer fault side =
     record { status = code fault.status; side = side; part = part_number fault.part }
 
--- the answer where there are no details of this side
-abbrev pub null_answer : ℕ → PartAnswer
-null_answer side = record { status = code status.Null; side = side; part = 0 }
-
 -- what is wrong where a header is another
 abbrev pub other : Difference → Status
 other difference.Name = status.OtherName
@@ -211,6 +212,10 @@ ComparesDetails o s answer =
     Reading (ReadsDetails o) (λ fault. answer ≡ part_answer fault 0) (λ opener.
     Reading (ReadsDetails s) (λ fault. answer ≡ part_answer fault 1) (λ service.
     Compares opener service answer))
+
+-- the answer where there are no details of this side
+abbrev pub null_answer : ℕ → PartAnswer
+null_answer side = part_answer (record { part = which.Header; status = status.Null }) side
 
 -- the answer where both are given
 abbrev pub ReportsCompatible : List Details → List Details → PartAnswer → Type 0

@@ -4,6 +4,7 @@ ghost use Rattle.iox2sd_values.specs.Settings.{event_capacities, request_respons
 ghost use Rattle.iox2sd_values.specs.Settings.{blackboard_capacities};
 
 use iox2_static::static_config::blackboard;
+use iox2sd_common::given_or_return;
 use iox2sd_common::read_settings::read_blackboard;
 use iox2sd_common::settings::{
     BlackboardSettings, EventSettings, PublishSubscribeSettings, RequestResponseSettings,
@@ -65,9 +66,7 @@ pub extern "C" fn iox2sd_publish_subscribe_capacities_of_settings_at(
     ensures { CapacitiesBy publish_subscribe_capacities
         (record { nodes = 0; publishers = 0; subscribers = 0 }) settings.now result }
 {
-    let [settings, ..] = settings else {
-        return PublishSubscribeCapacities::default();
-    };
+    let settings = given_or_return!(settings, PublishSubscribeCapacities::default());
     PublishSubscribeCapacities {
         nodes: settings.max_nodes,
         publishers: settings.max_publishers,
@@ -83,9 +82,7 @@ pub extern "C" fn iox2sd_event_capacities_of_settings_at(
     ensures { CapacitiesBy event_capacities (record { nodes = 0; listeners = 0; notifiers = 0 })
         settings.now result }
 {
-    let [settings, ..] = settings else {
-        return EventCapacities::default();
-    };
+    let settings = given_or_return!(settings, EventCapacities::default());
     EventCapacities {
         nodes: settings.max_nodes,
         listeners: settings.max_listeners,
@@ -101,9 +98,7 @@ pub extern "C" fn iox2sd_request_response_capacities_of_settings_at(
     ensures { CapacitiesBy request_response_capacities
         (record { nodes = 0; servers = 0; clients = 0 }) settings.now result }
 {
-    let [settings, ..] = settings else {
-        return RequestResponseCapacities::default();
-    };
+    let settings = given_or_return!(settings, RequestResponseCapacities::default());
     RequestResponseCapacities {
         nodes: settings.max_nodes,
         servers: settings.max_servers,
@@ -119,9 +114,7 @@ pub extern "C" fn iox2sd_blackboard_capacities_of_settings_at(
     ensures { CapacitiesBy blackboard_capacities (record { nodes = 0; readers = 0; writers = 0 })
         settings.now result }
 {
-    let [settings, ..] = settings else {
-        return BlackboardCapacities::default();
-    };
+    let settings = given_or_return!(settings, BlackboardCapacities::default());
     let fixed = blackboard::StaticConfig::with_settings(&read_blackboard(settings));
     BlackboardCapacities {
         nodes: fixed.max_nodes,

@@ -1,10 +1,11 @@
 //! Which openers may use the messages of a service.
 ghost use Rattle.std.specs.Prelude.{◌≡◌};
 ghost use Rattle.iox2sd_values.specs.Messages.{part_answer, other, unsuited, fault_of};
-ghost use Rattle.iox2sd_values.specs.Messages.{null_answer, Compares, ComparesDetails, ReportsCompatible};
+ghost use Rattle.iox2sd_values.specs.Messages.{Compares, ComparesDetails, ReportsCompatible};
 
 use super::details::{Details, Fault, Which, read_details};
 use iox2_config::types::{Difference, Incompatibility, MessageTypeDetails};
+use iox2sd_common::given_or_return;
 use iox2sd_common::status::Status;
 
 /// What is wrong of whose part.
@@ -18,6 +19,12 @@ pub struct PartAnswer {
     /// 0: of the header. 1: of the user header. 2: of the payload.
     pub part: u32,
 }
+
+/// NULL stands for details.
+const NULL: Fault = Fault {
+    part: Which::Header,
+    status: Status::Null,
+};
 
 /// The answer on a fault of this side.
 fn part_answer(fault: Fault, side: u32) -> PartAnswer
@@ -119,22 +126,7 @@ pub extern "C" fn iox2sd_message_is_compatible_to_at(
 ) -> PartAnswer
     ensures { ReportsCompatible opener.now service.now result }
 {
-    let [opener, ..] = opener else {
-        return null(0);
-    };
-    let [service, ..] = service else {
-        return null(1);
-    };
+    let opener = given_or_return!(opener, part_answer(NULL, 0));
+    let service = given_or_return!(service, part_answer(NULL, 1));
     judge(opener, service)
-}
-
-/// The answer where NULL stands for the details of this side.
-fn null(side: u32) -> PartAnswer
-    ensures { result ≡ null_answer side }
-{
-    PartAnswer {
-        status: Status::Null.code(),
-        side,
-        part: 0,
-    }
 }

@@ -18,10 +18,11 @@ use iox2_static::static_config::messaging_pattern::MessagingPattern;
 use iox2_static::static_config::{blackboard, event, publish_subscribe, request_response};
 use iox2_texts::service_name::ServiceName;
 use iox2sd_common::answers::{FlagAnswer, zero_padded};
+use iox2sd_common::given_or_return;
 use iox2sd_common::id::Id;
 use iox2sd_common::read_settings::{
-    Field, FieldAnswer, Refusal, no_field, pattern_of, read_blackboard, read_event,
-    read_publish_subscribe, read_request_response,
+    Field, FieldAnswer, no_field, pattern_of, read_blackboard, read_event, read_publish_subscribe,
+    read_request_response,
 };
 use iox2sd_common::settings::{
     BlackboardSettings, EventSettings, OptionalDuration, OptionalEventId, PublishSubscribeSettings,
@@ -223,18 +224,18 @@ fn described(
     hash: &ServiceHash,
     pattern: &MessagingPattern,
     id: Id,
-) -> Result<ServiceDescription, Refusal>
-    ensures { result ≡ Ok (c_description (record {
+) -> ServiceDescription
+    ensures { result ≡ c_description (record {
       name = name.now;
       id = number_of id;
       hash = hash.now;
       attributes = [];
       pattern = pattern.now;
-    }) id) }
+    }) id }
 {
     let name = name.as_str().as_bytes();
     let hash = hash.as_str().as_bytes();
-    Ok(ServiceDescription {
+    ServiceDescription {
         name: zero_padded(name),
         name_length: name.len(),
         id,
@@ -245,7 +246,7 @@ fn described(
         event: event_config(pattern),
         request_response: request_response_config(pattern),
         blackboard: blackboard_config(pattern),
-    })
+    }
 }
 
 /// The description of a service with this name and this pattern, each of which may be refused.
@@ -253,18 +254,27 @@ fn describe(
     name: Result<ServiceName, Status>,
     pattern: &Result<MessagingPattern, Field>,
     id: Id,
-) -> Result<ServiceDescription, Refusal>
+) -> Result<ServiceDescription, FieldAnswer>
     ensures { DescribesAs name pattern.now id result }
 {
-    let name = name?;
+    let name = match name {
+        Ok(name) => name,
+        Err(status) => return Err(no_field(status)),
+    };
     match pattern {
-        Ok(pattern) => described(&name, &hash_text(pattern.kind(), &name)?, pattern, id),
-        Err(field) => Err(Refusal::Invalid(*field)),
+        Ok(pattern) => match hash_text(pattern.kind(), &name) {
+            Ok(hash) => Ok(described(&name, &hash, pattern, id)),
+            Err(status) => Err(no_field(status)),
+        },
+        Err(field) => Err(field.answer()),
     }
 }
 
 /// Fills the first struct with what was made, or leaves it as it is.
-fn fill(made: Result<ServiceDescription, Refusal>, out: &mut [ServiceDescription]) -> FieldAnswer
+fn fill(
+    made: Result<ServiceDescription, FieldAnswer>,
+    out: &mut [ServiceDescription],
+) -> FieldAnswer
     ensures { Fills out.old made result out.new }
 {
     match out {
@@ -274,7 +284,7 @@ fn fill(made: Result<ServiceDescription, Refusal>, out: &mut [ServiceDescription
                 *first = description;
                 no_field(Status::Done)
             }
-            Err(refusal) => refusal.answer(),
+            Err(answer) => answer,
         },
     }
 }
@@ -303,9 +313,8 @@ fn publish_subscribe_pattern(settings: &PublishSubscribeSettings) -> Result<Mess
     ensures { MakesPublishSubscribe settings.now result }
 {
     let settings = read_publish_subscribe(settings)?;
-    Ok(MessagingPattern::PublishSubscribe(publish_subscribe::StaticConfig::with_settings(
-        &settings,
-    )))
+    let config = publish_subscribe::StaticConfig::with_settings(&settings);
+    Ok(MessagingPattern::PublishSubscribe(config))
 }
 
 /// Describes a publish-subscribe service. Its name may be one of the system's own where `internal`
@@ -328,16 +337,9 @@ pub extern "C" fn iox2sd_describe_publish_subscribe_at(
         name.now id out.old answer out.new) result }
     ensures cause { NameCause internal name.now result.status result.cause }
 {
-    let [settings, ..] = settings else {
-        return no_field(Status::Null);
-    };
-    describe_as(
-        &publish_subscribe_pattern(settings),
-        name,
-        internal,
-        id,
-        out,
-    )
+    let settings = given_or_return!(settings, no_field(Status::Null));
+    let pattern = publish_subscribe_pattern(settings);
+    describe_as(&pattern, name, internal, id, out)
 }
 
 /// The pattern of an event service with these settings, or the first invalid field.
@@ -362,9 +364,7 @@ pub extern "C" fn iox2sd_describe_event_at(
         id out.old answer out.new) result }
     ensures cause { NameCause internal name.now result.status result.cause }
 {
-    let [settings, ..] = settings else {
-        return no_field(Status::Null);
-    };
+    let settings = given_or_return!(settings, no_field(Status::Null));
     describe_as(&event_pattern(settings), name, internal, id, out)
 }
 
@@ -391,9 +391,7 @@ pub extern "C" fn iox2sd_describe_request_response_at(
         id out.old answer out.new) result }
     ensures cause { NameCause internal name.now result.status result.cause }
 {
-    let [settings, ..] = settings else {
-        return no_field(Status::Null);
-    };
+    let settings = given_or_return!(settings, no_field(Status::Null));
     describe_as(&request_response_pattern(settings), name, internal, id, out)
 }
 
@@ -419,9 +417,7 @@ pub extern "C" fn iox2sd_describe_blackboard_at(
         id out.old answer out.new) result }
     ensures cause { NameCause internal name.now result.status result.cause }
 {
-    let [settings, ..] = settings else {
-        return no_field(Status::Null);
-    };
+    let settings = given_or_return!(settings, no_field(Status::Null));
     describe_as(&blackboard_pattern(settings), name, internal, id, out)
 }
 

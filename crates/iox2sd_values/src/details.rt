@@ -1,9 +1,10 @@
 //! What a caller says of the parts of a message.
 ghost use Rattle.iox2sd_values.specs.Messages.{ReadsVariant, ReadsPart, ReadsDetails, ShapesPart};
-ghost use Rattle.iox2sd_values.specs.Messages.{ShapesDetails, ChecksPart};
+ghost use Rattle.iox2sd_values.specs.Messages.{ReadsAs, ShapesDetails, ChecksPart};
 
 use iox2_config::types::{MessageTypeDetails, TypeDetail, TypeDetailError, TypeVariant};
 use iox2_texts::bounded::StringModificationError;
+use iox2sd_common::given_or_return;
 use iox2sd_common::status::Status;
 use std::str;
 
@@ -96,33 +97,26 @@ fn read_part(part: &Part<'_>) -> Result<TypeDetail, Status>
 pub extern "C" fn iox2sd_type_detail_check_at(part: &[Part<'_>]) -> u32
     ensures { ChecksPart part.now result }
 {
-    let [part, ..] = part else {
-        return Status::Null.code();
-    };
+    let part = given_or_return!(part, Status::Null.code());
     match read_part(part) {
         Ok(_) => Status::Done.code(),
         Err(status) => status.code(),
     }
 }
 
+/// The type of this part of a message, or what is wrong with it.
+fn read_as(part: Which, details: &Part<'_>) -> Result<TypeDetail, Fault>
+    ensures { ReadsAs part details.now result }
+{
+    read_part(details).map_err(|status| Fault { part, status })
+}
+
 /// The types of all parts, or what is wrong with the first invalid part.
 pub(super) fn read_details(details: &Details<'_>) -> Result<MessageTypeDetails, Fault>
     ensures { ReadsDetails details.now result }
 {
-    let header = match read_part(&details.header) {
-        Ok(header) => header,
-        Err(status) => {
-            let part = Which::Header;
-            return Err(Fault { part, status });
-        }
-    };
-    let user_header = match read_part(&details.user_header) {
-        Ok(user_header) => user_header,
-        Err(status) => {
-            let part = Which::UserHeader;
-            return Err(Fault { part, status });
-        }
-    };
+    let header = read_as(Which::Header, &details.header)?;
+    let user_header = read_as(Which::UserHeader, &details.user_header)?;
     match read_part(&details.payload) {
         Ok(payload) => Ok(MessageTypeDetails {
             header,

@@ -1,11 +1,10 @@
 //! Whether a service meets what an opener requires.
 ghost use Rattle.std.specs.Prelude.{◌≡◌};
-ghost use Rattle.iox2sd_values.specs.Descriptions.{c_publish_subscribe, c_request_response};
-ghost use Rattle.iox2sd_values.specs.Descriptions.{c_blackboard};
 ghost use Rattle.iox2sd_values.specs.Satisfies.{setting_number, satisfied, ReadsFixed, settings_of};
 ghost use Rattle.iox2sd_values.specs.Satisfies.{ComparesEvents, SatisfiesPublishSubscribe};
 ghost use Rattle.iox2sd_values.specs.Satisfies.{SatisfiesEvent, SatisfiesRequestResponse};
-ghost use Rattle.iox2sd_values.specs.Satisfies.{SatisfiesBlackboard};
+ghost use Rattle.iox2sd_values.specs.Satisfies.{SatisfiesBlackboard, fixed_publish_subscribe};
+ghost use Rattle.iox2sd_values.specs.Satisfies.{fixed_request_response, fixed_blackboard};
 
 use super::descriptions::{
     BlackboardConfig, EventConfig, PublishSubscribeConfig, RequestResponseConfig,
@@ -13,6 +12,7 @@ use super::descriptions::{
 use iox2_config::types::{MessageTypeDetails, TypeDetail};
 use iox2_static::static_config::setting::Setting;
 use iox2_static::static_config::{blackboard, event, publish_subscribe, request_response};
+use iox2sd_common::given_or_return;
 use iox2sd_common::read_settings::{Field, FieldAnswer, no_field, read_event};
 use iox2sd_common::settings::EventSettings;
 use iox2sd_common::status::Status;
@@ -66,7 +66,7 @@ fn satisfied(unmet: Option<Setting>) -> FieldAnswer
 
 /// What is fixed of a publish-subscribe service, beside the types of its messages.
 fn publish_subscribe_of(config: &PublishSubscribeConfig) -> publish_subscribe::StaticConfig
-    ensures { c_publish_subscribe result ≡ config.now }
+    ensures { result ≡ fixed_publish_subscribe config.now }
 {
     publish_subscribe::StaticConfig {
         max_subscribers: config.max_subscribers,
@@ -92,9 +92,8 @@ pub extern "C" fn iox2sd_publish_subscribe_satisfies_at(
 ) -> FieldAnswer
     ensures { SatisfiesPublishSubscribe service.now required.now result }
 {
-    let ([service, ..], [required, ..]) = (service, required) else {
-        return no_field(Status::Null);
-    };
+    let service = given_or_return!(service, no_field(Status::Null));
+    let required = given_or_return!(required, no_field(Status::Null));
     satisfied(publish_subscribe_of(service).first_unmet(&publish_subscribe_of(required)))
 }
 
@@ -149,15 +148,14 @@ pub extern "C" fn iox2sd_event_satisfies_at(
 ) -> FieldAnswer
     ensures { SatisfiesEvent service.now required.now result }
 {
-    let ([service, ..], [required, ..]) = (service, required) else {
-        return no_field(Status::Null);
-    };
+    let service = given_or_return!(service, no_field(Status::Null));
+    let required = given_or_return!(required, no_field(Status::Null));
     compare_events(service, required)
 }
 
 /// What is fixed of a request-response service, beside the types of its messages.
 fn request_response_of(config: &RequestResponseConfig) -> request_response::StaticConfig
-    ensures { c_request_response result ≡ config.now }
+    ensures { result ≡ fixed_request_response config.now }
 {
     request_response::StaticConfig {
         enable_safe_overflow_for_requests: config.enable_safe_overflow_for_requests,
@@ -184,15 +182,14 @@ pub extern "C" fn iox2sd_request_response_satisfies_at(
 ) -> FieldAnswer
     ensures { SatisfiesRequestResponse service.now required.now result }
 {
-    let ([service, ..], [required, ..]) = (service, required) else {
-        return no_field(Status::Null);
-    };
+    let service = given_or_return!(service, no_field(Status::Null));
+    let required = given_or_return!(required, no_field(Status::Null));
     satisfied(request_response_of(service).first_unmet(&request_response_of(required)))
 }
 
 /// What is fixed of a blackboard service, beside the type of its keys.
 fn blackboard_of(config: &BlackboardConfig) -> blackboard::StaticConfig
-    ensures { c_blackboard result ≡ config.now }
+    ensures { result ≡ fixed_blackboard config.now }
 {
     blackboard::StaticConfig {
         max_readers: config.max_readers,
@@ -210,8 +207,7 @@ pub extern "C" fn iox2sd_blackboard_satisfies_at(
 ) -> FieldAnswer
     ensures { SatisfiesBlackboard service.now required.now result }
 {
-    let ([service, ..], [required, ..]) = (service, required) else {
-        return no_field(Status::Null);
-    };
+    let service = given_or_return!(service, no_field(Status::Null));
+    let required = given_or_return!(required, no_field(Status::Null));
     satisfied(blackboard_of(service).first_unmet(&blackboard_of(required)))
 }

@@ -10,6 +10,7 @@ ghost use Rattle.iox2sd_common.specs.ReadSettings.{ReadsRequestResponse};
 ghost use Rattle.iox2sd_values.specs.Settings.{ReportsGlobalDefaults, checked, ChecksBy};
 
 use iox2_config::config::{Blackboard, Event, Node, PublishSubscribe, RequestResonse, Service};
+use iox2sd_common::given_or_return;
 use iox2sd_common::read_settings::{
     Field, FieldAnswer, no_field, read_event, read_global, read_publish_subscribe,
     read_request_response,
@@ -28,11 +29,8 @@ use std::time::Duration;
 pub extern "C" fn iox2sd_global_defaults() -> GlobalSettings
     ensures { ReportsGlobalDefaults result }
 {
-    global_with(
-        Duration::from_millis(500),
-        &Service::default(),
-        &Node::default(),
-    )
+    let timeout = Duration::from_millis(500);
+    global_with(timeout, &Service::default(), &Node::default())
 }
 
 /// The settings that a publish-subscribe service gets by default.
@@ -87,9 +85,7 @@ pub extern "C" fn iox2sd_publish_subscribe_settings_check_at(
 ) -> FieldAnswer
     ensures { ChecksBy ReadsPublishSubscribe settings.now result }
 {
-    let [settings, ..] = settings else {
-        return no_field(Status::Null);
-    };
+    let settings = given_or_return!(settings, no_field(Status::Null));
     checked(read_publish_subscribe(settings))
 }
 
@@ -101,9 +97,7 @@ pub extern "C" fn iox2sd_publish_subscribe_settings_check_at(
 pub extern "C" fn iox2sd_event_settings_check_at(settings: &[EventSettings]) -> FieldAnswer
     ensures { ChecksBy ReadsEvent settings.now result }
 {
-    let [settings, ..] = settings else {
-        return no_field(Status::Null);
-    };
+    let settings = given_or_return!(settings, no_field(Status::Null));
     checked(read_event(settings))
 }
 
@@ -115,9 +109,7 @@ pub extern "C" fn iox2sd_request_response_settings_check_at(
 ) -> FieldAnswer
     ensures { ChecksBy ReadsRequestResponse settings.now result }
 {
-    let [settings, ..] = settings else {
-        return no_field(Status::Null);
-    };
+    let settings = given_or_return!(settings, no_field(Status::Null));
     checked(read_request_response(settings))
 }
 
@@ -129,8 +121,6 @@ pub extern "C" fn iox2sd_request_response_settings_check_at(
 pub extern "C" fn iox2sd_global_settings_check_at(settings: &[GlobalSettings]) -> FieldAnswer
     ensures { ChecksBy ReadsGlobal settings.now result }
 {
-    let [settings, ..] = settings else {
-        return no_field(Status::Null);
-    };
+    let settings = given_or_return!(settings, no_field(Status::Null));
     checked(read_global(settings))
 }

@@ -90,19 +90,11 @@ fn check_name(text: &[u8], most: usize) -> PlaceAnswer
         return position(Status::Done, 0);
     }
     if text.len() > most {
-        return refusal(
-            SemanticStringError::ExceedsMaximumLength,
-            text,
-            Alphabet::Text,
-            most,
-        );
+        let error = SemanticStringError::ExceedsMaximumLength;
+        return refusal(error, text, Alphabet::Text, most);
     }
-    refusal(
-        SemanticStringError::InvalidContent,
-        text,
-        Alphabet::Text,
-        most,
-    )
+    let error = SemanticStringError::InvalidContent;
+    refusal(error, text, Alphabet::Text, most)
 }
 
 /// Whether a text is the name of a service, which may be one of the system's own: 1 to 255 bytes,

@@ -2,7 +2,7 @@
 ghost use Rattle.std.specs.Prelude.{All, Err};
 ghost use Rattle.iox2sd.specs.Answers.{handle_answer};
 ghost use Rattle.iox2sd.specs.Changes.{Registers, Deregisters, Releases, AttachesAt};
-ghost use Rattle.iox2sd.specs.Objects.{IsSoundObject, At, Nothing};
+ghost use Rattle.iox2sd.specs.Objects.{IsSoundObject, At};
 ghost use Rattle.iox2sd.specs.Ports.{AttachesPort};
 ghost use Rattle.iox2sd_common.specs.Status.{code};
 
@@ -11,6 +11,7 @@ use crate::values::{Handle, HandleAnswer, Port};
 use iox2_dynamic::dynamic_config::{
     AttachError, DeregisterError, DeregisterNodeState, DynamicConfig, RegisterNodeResult,
 };
+use iox2sd_common::given_or_return;
 use iox2sd_common::id::Id;
 use iox2sd_common::status::Status;
 
@@ -33,7 +34,7 @@ fn register(service: &mut DynamicConfig, node: Id) -> Result<Handle, Status>
 #[unsafe(no_mangle)]
 pub extern "C" fn iox2sd_register_node_id_at(objects: &mut [Service], node: Id) -> HandleAnswer
     requires { All IsSoundObject objects.old }
-    ensures { At handle_answer Err Nothing (Registers node) objects.old result objects.new }
+    ensures { At handle_answer Err (Registers node) objects.old result objects.new }
 {
     let service = lent_or_return!(objects, status => HandleAnswer::of(Err(status)));
     HandleAnswer::of(register(service, node))
@@ -62,7 +63,7 @@ fn deregister(service: &mut DynamicConfig, handle: Handle) -> Status
 #[unsafe(no_mangle)]
 pub extern "C" fn iox2sd_deregister_node_id_at(objects: &mut [Service], handle: Handle) -> u32
     requires { All IsSoundObject objects.old }
-    ensures { At code (λ s. s) Nothing (Deregisters handle) objects.old result objects.new }
+    ensures { At code (λ s. s) (Deregisters handle) objects.old result objects.new }
 {
     let service = lent_or_return!(objects, status => status.code());
     deregister(service, handle).code()
@@ -93,9 +94,7 @@ pub extern "C" fn iox2sd_attach_at(objects: &mut [Service], ports: &[Port]) -> H
     requires { All IsSoundObject objects.old }
     ensures { AttachesAt ports.now objects.old result objects.new }
 {
-    let [port, ..] = ports else {
-        return HandleAnswer::of(Err(Status::Null));
-    };
+    let port = given_or_return!(ports, HandleAnswer::of(Err(Status::Null)));
     let service = lent_or_return!(objects, status => HandleAnswer::of(Err(status)));
     HandleAnswer::of(attach(service, port))
 }
@@ -120,7 +119,7 @@ fn release(service: &mut DynamicConfig, handle: Handle) -> Status
 #[unsafe(no_mangle)]
 pub extern "C" fn iox2sd_release_port_at(objects: &mut [Service], handle: Handle) -> u32
     requires { All IsSoundObject objects.old }
-    ensures { At code (λ s. s) Nothing (Releases handle) objects.old result objects.new }
+    ensures { At code (λ s. s) (Releases handle) objects.old result objects.new }
 {
     let service = lent_or_return!(objects, status => status.code());
     release(service, handle).code()

@@ -3,7 +3,7 @@ ghost use Rattle.std.specs.Prelude.{◌≡◌, All};
 ghost use Rattle.iox2_dynamic.specs.Steps.{DeadStep};
 ghost use Rattle.iox2sd.specs.Answers.{removal_answer};
 ghost use Rattle.iox2sd.specs.DeadNodes.{action_for, counted, Keeps, RemovesNode, Went, port_role};
-ghost use Rattle.iox2sd.specs.Objects.{IsSoundObject, At, Nothing};
+ghost use Rattle.iox2sd.specs.Objects.{IsSoundObject, At};
 ghost use Rattle.iox2sd.specs.declared.values.NodeRemoval.TheVariants as removal;
 
 use super::Service;
@@ -109,7 +109,7 @@ pub extern "C" fn iox2sd_remove_dead_node_id_at(
     kept: &[PortId],
 ) -> DeadNodeRemoval
     requires { All IsSoundObject objects.old }
-    ensures { At removal_answer removal.Refused Nothing (RemovesNode dead kept.now)
+    ensures { At removal_answer removal.Refused (RemovesNode dead kept.now)
         objects.old result objects.new }
 {
     let service = lent_or_return!(objects, status =>

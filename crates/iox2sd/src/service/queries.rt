@@ -1,11 +1,14 @@
 //! Questions to a service: its pattern, its number, its lock, its roles, how many nodes and ports
 //! there are and may be, whether one more may join, and what a handle stands for.
+//!
+//! Each refuses NULL (`Null`), then an object without a service (`NoService`), and then what it
+//! names.
 #![tactic(auto, using(crate::proofs::Lending::same_objects))]
 
-ghost use Rattle.std.specs.Prelude.{◌≡◌, All, Err, length};
+ghost use Rattle.std.specs.Prelude.{◌≡◌, All, length};
 ghost use Rattle.iox2_config.specs.Hashing.{pattern_number};
 ghost use Rattle.iox2sd.specs.Answers.{id_answer, number_answer, port_answer, roles_answer};
-ghost use Rattle.iox2sd.specs.Objects.{IsSoundObject, AnswersQuery, Nothing};
+ghost use Rattle.iox2sd.specs.Objects.{IsSoundObject, Asks};
 ghost use Rattle.iox2sd.specs.Queries.{Gives, RoleAnswer, roles_in, PortsAnswer, RoomAnswer};
 ghost use Rattle.iox2sd.specs.Queries.{NodeRoomAnswer, FindsNode, FindsPort};
 ghost use Rattle.iox2sd_common.specs.Answers.{flag_answer, c_count};
@@ -19,6 +22,14 @@ use iox2sd_common::answers::{CountAnswer, FlagAnswer};
 use iox2sd_common::id::Id;
 use iox2sd_common::status::Status;
 
+/// The answer of this type on the service of the first object.
+macro_rules! answer {
+    ($objects:expr, $answer:ident, $service:ident => $found:expr) => {{
+        let $service = lent_or_return!($objects, status => $answer::of(Err(status)));
+        $answer::of($found)
+    }};
+}
+
 /// Whether the pattern has ports of the role of this number.
 fn has_role(service: &DynamicConfig, role: u64) -> Result<bool, Status>
     ensures { RoleAnswer role service.now result }
@@ -27,70 +38,65 @@ fn has_role(service: &DynamicConfig, role: u64) -> Result<bool, Status>
     Ok(service.has_role(role))
 }
 
-/// The number of the pattern. Errors, in this order: NULL, an object without a service.
+/// The numbers of the roles of the pattern's two kinds of ports.
+fn port_roles(service: &DynamicConfig) -> Roles
+    ensures { result ≡ roles_in service.now }
+{
+    let (first, second) = service.kind().port_roles();
+    Roles {
+        first: first as u64,
+        second: second as u64,
+    }
+}
+
+/// The number of the pattern.
 #[unsafe(no_mangle)]
 pub extern "C" fn iox2sd_messaging_pattern_at(objects: &mut [Service]) -> NumberAnswer
     requires { All IsSoundObject objects.old }
-    ensures answer { AnswersQuery number_answer Err Nothing (Gives (λ s. pattern_number s.pattern))
-        objects.old result }
+    ensures answer { Asks number_answer (Gives (λ s. pattern_number s.pattern)) objects.old result }
     ensures unchanged { objects.new ≡ objects.old }
 {
-    let service = lent_or_return!(objects, status => NumberAnswer::of(Err(status)));
-    NumberAnswer::of(Ok(service.kind() as u64))
+    answer!(objects, NumberAnswer, service => Ok(service.kind() as u64))
 }
 
-/// The roles of the pattern's two kinds of ports. Errors, in this order: NULL, an object without a
-/// service.
+/// The roles of the pattern's two kinds of ports.
 #[unsafe(no_mangle)]
 pub extern "C" fn iox2sd_port_roles_at(objects: &mut [Service]) -> RolesAnswer
     requires { All IsSoundObject objects.old }
-    ensures answer { AnswersQuery roles_answer Err Nothing (Gives roles_in) objects.old result }
+    ensures answer { Asks roles_answer (Gives roles_in) objects.old result }
     ensures unchanged { objects.new ≡ objects.old }
 {
-    let service = lent_or_return!(objects, status => RolesAnswer::of(Err(status)));
-    let (first, second) = service.kind().port_roles();
-    RolesAnswer::of(Ok(Roles {
-        first: first as u64,
-        second: second as u64,
-    }))
+    answer!(objects, RolesAnswer, service => Ok(port_roles(service)))
 }
 
-/// The service's number, which each of its handles has. Errors, in this order: NULL, an object
-/// without a service.
+/// The service's number, which each of its handles has.
 #[unsafe(no_mangle)]
 pub extern "C" fn iox2sd_service_number_at(objects: &mut [Service]) -> NumberAnswer
     requires { All IsSoundObject objects.old }
-    ensures answer { AnswersQuery number_answer Err Nothing (Gives (λ s. s.nodes.registry.service))
-        objects.old result }
+    ensures answer { Asks number_answer (Gives (λ s. s.nodes.registry.service)) objects.old result }
     ensures unchanged { objects.new ≡ objects.old }
 {
-    let service = lent_or_return!(objects, status => NumberAnswer::of(Err(status)));
-    NumberAnswer::of(Ok(service.service_number()))
+    answer!(objects, NumberAnswer, service => Ok(service.service_number()))
 }
 
-/// Whether the service is locked for good. Errors, in this order: NULL, an object without a
-/// service.
+/// Whether the service is locked for good.
 #[unsafe(no_mangle)]
 pub extern "C" fn iox2sd_is_locked_at(objects: &mut [Service]) -> FlagAnswer
     requires { All IsSoundObject objects.old }
-    ensures answer { AnswersQuery flag_answer Err Nothing (Gives (λ s. s.nodes.registry.locked))
-        objects.old result }
+    ensures answer { Asks flag_answer (Gives (λ s. s.nodes.registry.locked)) objects.old result }
     ensures unchanged { objects.new ≡ objects.old }
 {
-    let service = lent_or_return!(objects, status => FlagAnswer::of(Err(status)));
-    FlagAnswer::of(Ok(service.is_locked()))
+    answer!(objects, FlagAnswer, service => Ok(service.is_locked()))
 }
 
-/// Whether the pattern has ports of the role. Errors, in this order: NULL, an object without a
-/// service, and a number of no role.
+/// Whether the pattern has ports of the role. Refused is a number of no role (`UnknownRole`).
 #[unsafe(no_mangle)]
 pub extern "C" fn iox2sd_has_role_at(objects: &mut [Service], role: u64) -> FlagAnswer
     requires { All IsSoundObject objects.old }
-    ensures answer { AnswersQuery flag_answer Err Nothing (RoleAnswer role) objects.old result }
+    ensures answer { Asks flag_answer (RoleAnswer role) objects.old result }
     ensures unchanged { objects.new ≡ objects.old }
 {
-    let service = lent_or_return!(objects, status => FlagAnswer::of(Err(status)));
-    FlagAnswer::of(has_role(service, role))
+    answer!(objects, FlagAnswer, service => has_role(service, role))
 }
 
 /// How many ports of the role of this number there are.
@@ -127,67 +133,58 @@ fn has_room_for_node(service: &DynamicConfig) -> Result<bool, Status>
     Ok(service.has_room_for_node())
 }
 
-/// How many handles of nodes there are. Errors, in this order: NULL, an object without a service.
+/// How many handles of nodes there are.
 #[unsafe(no_mangle)]
 pub extern "C" fn iox2sd_number_of_nodes_at(objects: &mut [Service]) -> CountAnswer
     requires { All IsSoundObject objects.old }
-    ensures answer { AnswersQuery c_count Err Nothing (Gives (λ s. length s.nodes.registry.entries))
+    ensures answer { Asks c_count (Gives (λ s. length s.nodes.registry.entries))
         objects.old result }
     ensures unchanged { objects.new ≡ objects.old }
 {
-    let service = lent_or_return!(objects, status => CountAnswer::of(Err(status)));
-    CountAnswer::of(Ok(service.number_of_nodes()))
+    answer!(objects, CountAnswer, service => Ok(service.number_of_nodes()))
 }
 
-/// How many handles of nodes there may be at a time. Errors, in this order: NULL, an object without
-/// a service.
+/// How many handles of nodes there may be at a time.
 #[unsafe(no_mangle)]
 pub extern "C" fn iox2sd_max_nodes_at(objects: &mut [Service]) -> CountAnswer
     requires { All IsSoundObject objects.old }
-    ensures answer { AnswersQuery c_count Err Nothing (Gives (λ s. s.nodes.registry.capacity))
-        objects.old result }
+    ensures answer { Asks c_count (Gives (λ s. s.nodes.registry.capacity)) objects.old result }
     ensures unchanged { objects.new ≡ objects.old }
 {
-    let service = lent_or_return!(objects, status => CountAnswer::of(Err(status)));
-    CountAnswer::of(Ok(service.max_nodes()))
+    answer!(objects, CountAnswer, service => Ok(service.max_nodes()))
 }
 
-/// Whether `iox2sd_register_node_id` would register a node. Errors, in this order: NULL, an object
-/// without a service.
+/// Whether `iox2sd_register_node_id` would register a node.
 #[unsafe(no_mangle)]
 pub extern "C" fn iox2sd_has_room_for_node_at(objects: &mut [Service]) -> FlagAnswer
     requires { All IsSoundObject objects.old }
-    ensures answer { AnswersQuery flag_answer Err Nothing NodeRoomAnswer objects.old result }
+    ensures answer { Asks flag_answer NodeRoomAnswer objects.old result }
     ensures unchanged { objects.new ≡ objects.old }
 {
-    let service = lent_or_return!(objects, status => FlagAnswer::of(Err(status)));
-    FlagAnswer::of(has_room_for_node(service))
+    answer!(objects, FlagAnswer, service => has_room_for_node(service))
 }
 
-/// How many ports of the role there are. Errors, in this order: NULL, an object without a service,
-/// a number of no role, and a role that the pattern does not have.
+/// How many ports of the role there are. Refused are, in this order, a number of no role
+/// (`UnknownRole`), and a role that the pattern does not have (`RoleNotInPattern`).
 #[unsafe(no_mangle)]
 pub extern "C" fn iox2sd_count_ports_at(objects: &mut [Service], role: u64) -> CountAnswer
     requires { All IsSoundObject objects.old }
-    ensures answer { AnswersQuery c_count Err Nothing (PortsAnswer (λ r n. n ≡ length r.entries)
+    ensures answer { Asks c_count (PortsAnswer (λ r n. n ≡ length r.entries)
         role)
         objects.old result }
     ensures unchanged { objects.new ≡ objects.old }
 {
-    let service = lent_or_return!(objects, status => CountAnswer::of(Err(status)));
-    CountAnswer::of(count_ports(service, role))
+    answer!(objects, CountAnswer, service => count_ports(service, role))
 }
 
 /// How many ports of the role there may be at a time. Refused as `iox2sd_count_ports` is.
 #[unsafe(no_mangle)]
 pub extern "C" fn iox2sd_max_ports_at(objects: &mut [Service], role: u64) -> CountAnswer
     requires { All IsSoundObject objects.old }
-    ensures answer { AnswersQuery c_count Err Nothing (PortsAnswer (λ r n. n ≡ r.capacity) role)
-        objects.old result }
+    ensures answer { Asks c_count (PortsAnswer (λ r n. n ≡ r.capacity) role) objects.old result }
     ensures unchanged { objects.new ≡ objects.old }
 {
-    let service = lent_or_return!(objects, status => CountAnswer::of(Err(status)));
-    CountAnswer::of(max_ports(service, role))
+    answer!(objects, CountAnswer, service => max_ports(service, role))
 }
 
 /// Whether `iox2sd_attach` would attach a port of the role, if its node is registered. Refused as
@@ -195,11 +192,10 @@ pub extern "C" fn iox2sd_max_ports_at(objects: &mut [Service], role: u64) -> Cou
 #[unsafe(no_mangle)]
 pub extern "C" fn iox2sd_has_room_at(objects: &mut [Service], role: u64) -> FlagAnswer
     requires { All IsSoundObject objects.old }
-    ensures answer { AnswersQuery flag_answer Err Nothing (RoomAnswer role) objects.old result }
+    ensures answer { Asks flag_answer (RoomAnswer role) objects.old result }
     ensures unchanged { objects.new ≡ objects.old }
 {
-    let service = lent_or_return!(objects, status => FlagAnswer::of(Err(status)));
-    FlagAnswer::of(has_room(service, role))
+    answer!(objects, FlagAnswer, service => has_room(service, role))
 }
 
 /// The node of the handle.
@@ -220,26 +216,24 @@ fn find_port(service: &DynamicConfig, handle: Handle) -> Result<Port, Status>
     Ok(Port::of(&details))
 }
 
-/// The node that was registered with this handle. Errors, in this order: NULL, an object without a
-/// service, a number of no role, and each handle that is not that of a node here.
+/// The node that was registered with this handle. Refused are, in this order, a number of no role
+/// (`UnknownRole`), and each handle that is not that of a node here (`ForeignHandle`).
 #[unsafe(no_mangle)]
 pub extern "C" fn iox2sd_node_at(objects: &mut [Service], handle: Handle) -> IdAnswer
     requires { All IsSoundObject objects.old }
-    ensures answer { AnswersQuery id_answer Err Nothing (FindsNode handle) objects.old result }
+    ensures answer { Asks id_answer (FindsNode handle) objects.old result }
     ensures unchanged { objects.new ≡ objects.old }
 {
-    let service = lent_or_return!(objects, status => IdAnswer::of(Err(status)));
-    IdAnswer::of(find_node(service, handle))
+    answer!(objects, IdAnswer, service => find_node(service, handle))
 }
 
-/// The port that was attached with this handle. Errors, in this order: NULL, an object without a
-/// service, a number of no role, and each handle that is not that of a port here.
+/// The port that was attached with this handle. Refused are, in this order, a number of no role
+/// (`UnknownRole`), and each handle that is not that of a port here (`ForeignHandle`).
 #[unsafe(no_mangle)]
 pub extern "C" fn iox2sd_port_at(objects: &mut [Service], handle: Handle) -> PortAnswer
     requires { All IsSoundObject objects.old }
-    ensures answer { AnswersQuery port_answer Err Nothing (FindsPort handle) objects.old result }
+    ensures answer { Asks port_answer (FindsPort handle) objects.old result }
     ensures unchanged { objects.new ≡ objects.old }
 {
-    let service = lent_or_return!(objects, status => PortAnswer::of(Err(status)));
-    PortAnswer::of(find_port(service, handle))
+    answer!(objects, PortAnswer, service => find_port(service, handle))
 }

@@ -1,4 +1,4 @@
-use Rattle.std.proofs.Common.{refl}
+use Rattle.iox2sd_config.proofs.Prelude.{refl}
 use Rattle.iox2sd_config.proofs.fault.reported.Goals as goal
 
 pub returns : goal.returns

@@ -1,7 +1,5 @@
-use Rattle.std.proofs.Common.{◌∙◌, ap, inl, subst, arith}
-use Rattle.std.specs.Prelude.{slice_get}
+use Rattle.iox2sd_config.proofs.Prelude.{ListsFaults, ap, arith, inl, slice_get, subst, ◌∙◌}
 use Rattle.iox2sd_config.proofs.Listed.{as_many, front_of}
-use Rattle.iox2sd_config.specs.Files.{ListsFaults}
 use Rattle.iox2sd_config.proofs.read.first_fault.Goals as goal
 
 pub first_of-requires : goal.first_of-requires

@@ -1,4 +1,4 @@
-use Rattle.std.proofs.Common.{◌∙◌, ap, inl, inr, refl}
+use Rattle.iox2sd_config.proofs.Prelude.{ap, inl, inr, refl, ◌∙◌}
 use Rattle.iox2sd_common.specs.Answers.{count_answer}
 use Rattle.iox2sd_config.proofs.read.iox2sd_config_faults_at.Goals as goal
 

@@ -1,7 +1,5 @@
-use Rattle.std.proofs.Common.{rules, subst}
-use Rattle.std.proofs.lemmas.List.Sorted.{answers_always}
+use Rattle.iox2sd_config.proofs.Prelude.{answers_always, fault_sort_key, rules, subst}
 use Rattle.config_report.specs.Findings.{IsInOrder}
-use Rattle.iox2sd_config.specs.Files.{fault_sort_key}
 use Rattle.iox2sd_config.proofs.read.listed_faults.Goals as goal
 
 pub returns : goal.returns

@@ -1,9 +1,4 @@
-use Rattle.std.proofs.Common.{None, arith, sym, ◌∙◌}
-use Rattle.std.proofs.lemmas.List.{map-id}
-use Rattle.config_report.proofs.Lines.{all_mapped, item_is, map_twice, one_positioned}
-use Rattle.config_report.specs.Notes.{fault_position, fault_topic, topic_position}
-use Rattle.iox2_config_file.specs.Read.{fault_view}
-use Rattle.iox2sd_config.specs.Faults.{c_at, c_fault}
+use Rattle.iox2sd_config.proofs.Prelude.{None, all_mapped, arith, c_at, c_fault, fault_position, fault_topic, fault_view, item_is, map-id, map_twice, one_positioned, sym, topic_position, ◌∙◌}
 use Rattle.iox2sd_config.proofs.read.plain_faults.Goals as goal
 
 pub loop-fault-preserved : goal.loop-fault-preserved

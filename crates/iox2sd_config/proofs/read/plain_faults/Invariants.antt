@@ -1,7 +1,4 @@
-use Rattle.std.proofs.Common.{◌≡◌, ◌++◌, drop}
-use Rattle.std.specs.Prelude.{map}
-use Rattle.iox2_config_file.specs.Read.{fault_view}
-use Rattle.iox2sd_config.specs.Faults.{c_fault}
+use Rattle.iox2sd_config.proofs.Prelude.{c_fault, drop, fault_view, map, ◌++◌, ◌≡◌}
 use Rattle.iox2sd_config.proofs.read.plain_faults.Given as goal
 
 abbrev pub invariant-loop-fault : goal.invariant-loop-fault

@@ -1,4 +1,4 @@
-use Rattle.std.proofs.Common.{inl}
+use Rattle.iox2sd_config.proofs.Prelude.{inl}
 use Rattle.iox2sd_config.proofs.read.put_listed.Goals as goal
 
 pub returns-in-Ok : goal.returns-in-Ok

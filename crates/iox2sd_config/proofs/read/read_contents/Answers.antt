@@ -1,4 +1,4 @@
-use Rattle.std.proofs.Common.{refl}
+use Rattle.iox2sd_config.proofs.Prelude.{refl}
 use Rattle.iox2sd_config.proofs.Listed.{has_faults}
 use Rattle.iox2sd_config.proofs.read.read_contents.Goals as goal
 

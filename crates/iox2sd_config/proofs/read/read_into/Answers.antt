@@ -1,5 +1,4 @@
-use Rattle.std.proofs.Common.{◌∙◌, ap, inl, inr, refl, subst}
-use Rattle.iox2sd_config.specs.Files.{Settles, refused_answer}
+use Rattle.iox2sd_config.proofs.Prelude.{Settles, ap, inl, inr, refl, refused_answer, subst, ◌∙◌}
 use Rattle.iox2sd_config.proofs.read.read_into.Goals as goal
 
 pub read_contents-requires : goal.read_contents-requires

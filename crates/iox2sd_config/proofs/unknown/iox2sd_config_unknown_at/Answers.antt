@@ -1,5 +1,4 @@
-use Rattle.std.proofs.Common.{◌∙◌, ap, inl, inr, refl}
-use Rattle.iox2sd_config.specs.Unknown.{unknown_answer}
+use Rattle.iox2sd_config.proofs.Prelude.{ap, inl, inr, refl, unknown_answer, ◌∙◌}
 use Rattle.iox2sd_config.proofs.unknown.iox2sd_config_unknown_at.Goals as goal
 
 pub put_unknown-requires : goal.put_unknown-requires

@@ -1,6 +1,4 @@
-use Rattle.std.proofs.Common.{rules}
-use Rattle.std.proofs.lemmas.List.Sorted.{answers_always}
-use Rattle.iox2sd_config.specs.Unknown.{named_sort_key}
+use Rattle.iox2sd_config.proofs.Prelude.{answers_always, named_sort_key, rules}
 use Rattle.iox2sd_config.proofs.unknown.listed_keys.Goals as goal
 
 pub returns : goal.returns

@@ -1,8 +1,4 @@
-use Rattle.std.proofs.Common.{None, arith, sym, ◌∙◌}
-use Rattle.config_report.proofs.Lines.{map_twice, one_positioned}
-use Rattle.config_report.specs.Notes.{topic_position, unknown_position, unknown_topic}
-use Rattle.iox2_config_file.specs.Unknown.{unknown_view}
-use Rattle.iox2sd_config.specs.Unknown.{named_view, c_key_at}
+use Rattle.iox2sd_config.proofs.Prelude.{None, arith, c_key_at, map_twice, named_view, one_positioned, sym, topic_position, unknown_position, unknown_topic, unknown_view, ◌∙◌}
 use Rattle.iox2sd_config.proofs.unknown.named_keys.Goals as goal
 
 pub loop-key-preserved : goal.loop-key-preserved

@@ -1,7 +1,4 @@
-use Rattle.std.proofs.Common.{◌≡◌, ◌++◌, drop}
-use Rattle.std.specs.Prelude.{map}
-use Rattle.iox2_config_file.specs.Unknown.{unknown_view}
-use Rattle.iox2sd_config.specs.Unknown.{named_view, c_unknown}
+use Rattle.iox2sd_config.proofs.Prelude.{c_unknown, drop, map, named_view, unknown_view, ◌++◌, ◌≡◌}
 use Rattle.iox2sd_config.proofs.unknown.named_keys.Given as goal
 
 abbrev pub invariant-loop-key : goal.invariant-loop-key

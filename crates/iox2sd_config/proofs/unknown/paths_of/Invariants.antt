@@ -1,6 +1,4 @@
-use Rattle.std.proofs.Common.{◌≡◌, ◌++◌, drop}
-use Rattle.std.specs.Prelude.{string_bytes}
-use Rattle.iox2sd_config.specs.Unknown.{paths_of}
+use Rattle.iox2sd_config.proofs.Prelude.{drop, paths_of, string_bytes, ◌++◌, ◌≡◌}
 use Rattle.iox2sd_config.proofs.unknown.paths_of.Given as goal
 
 abbrev pub invariant-loop-key : goal.invariant-loop-key

@@ -1,5 +1,4 @@
-use Rattle.std.proofs.Common.{◌≡◌, ◌++◌, drop}
-use Rattle.iox2sd_config.specs.Unknown.{plain_of}
+use Rattle.iox2sd_config.proofs.Prelude.{drop, plain_of, ◌++◌, ◌≡◌}
 use Rattle.iox2sd_config.proofs.unknown.plain_of.Given as goal
 
 abbrev pub invariant-loop-key : goal.invariant-loop-key

@@ -1,7 +1,4 @@
-use Rattle.std.proofs.Common.{arith}
-use Rattle.std.proofs.lemmas.List.Elements.{All-more}
-use Rattle.iox2_texts.proofs.VerifyLemmas.{all_of_take}
-use Rattle.iox2sd_values.specs.Attributes.{HasText}
+use Rattle.iox2sd_values.proofs.Prelude.{All-more, HasText, all_of_take, arith}
 use Rattle.iox2sd_values.proofs.attributes.check_keys.Goals as goal
 
 pub loop-i-preserved : goal.loop-i-preserved

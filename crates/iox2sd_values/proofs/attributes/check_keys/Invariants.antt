@@ -1,5 +1,4 @@
-use Rattle.std.proofs.Common.{◌≤◌, ◌+◌, take, All}
-use Rattle.iox2sd_values.specs.Attributes.{HasText}
+use Rattle.iox2sd_values.proofs.Prelude.{All, HasText, take, ◌+◌, ◌≤◌}
 use Rattle.iox2sd_values.proofs.attributes.check_keys.Given as goal
 
 -- the keys before the place are legal

@@ -1,5 +1,4 @@
-use Rattle.std.proofs.Common.{◌≤◌, take, All}
-use Rattle.iox2sd_values.specs.Attributes.{IsLegal}
+use Rattle.iox2sd_values.proofs.Prelude.{All, IsLegal, take, ◌≤◌}
 use Rattle.iox2sd_values.proofs.attributes.check_pairs.Given as goal
 
 -- the pairs before the place are legal

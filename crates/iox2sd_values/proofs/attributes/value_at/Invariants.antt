@@ -1,6 +1,4 @@
-use Rattle.std.proofs.Common.{◌≡◌, drop, map, slice_get}
-use Rattle.iox2_texts.specs.Attribute.{values_of}
-use Rattle.iox2sd_values.specs.Attributes.{pair_of}
+use Rattle.iox2sd_values.proofs.Prelude.{drop, map, pair_of, slice_get, values_of, ◌≡◌}
 use Rattle.iox2sd_values.proofs.attributes.value_at.Given as goal
 
 -- what is left of the way is left of the values

@@ -1,4 +1,4 @@
-use Rattle.std.proofs.Common.{take, length}
+use Rattle.iox2sd_values.proofs.Prelude.{length, take}
 use Rattle.iox2sd_values.proofs.Verdicts.{is_listed, judged, reports_pair, reports_key, reports_done}
 use Rattle.iox2sd_values.proofs.attributes.verify.Goals as goal
 

@@ -1,7 +1,4 @@
-use Rattle.std.proofs.Common.{refl, ap, subst, ◌∙◌, slice_get}
-use Rattle.std.specs.Option.{ok_or}
-use Rattle.iox2_texts.specs.Attribute.{values_of}
-use Rattle.iox2sd_common.specs.Answers.{ReportsText}
+use Rattle.iox2sd_values.proofs.Prelude.{ReportsText, ap, ok_or, refl, slice_get, subst, values_of, ◌∙◌}
 use Rattle.iox2sd_common.specs.declared.status.Status.TheVariants as status
 use Rattle.iox2sd_values.proofs.Values.{the_set}
 use Rattle.iox2sd_values.proofs.attributes.write_value.Goals as goal

@@ -1,4 +1,4 @@
-use Rattle.std.proofs.Common.{◌++◌, subst, Ok, Err}
+use Rattle.iox2sd_values.proofs.Prelude.{Err, Ok, subst, ◌++◌}
 use lib.Chars.{codes}
 use Rattle.iox2_texts.specs.Name.{MakesServiceName}
 use Rattle.iox2_texts.specs.declared.service_name.ServiceNameError.TheVariants.{InvalidContent}

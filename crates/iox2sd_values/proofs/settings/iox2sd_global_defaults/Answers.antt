@@ -1,4 +1,4 @@
-use Rattle.std.proofs.Common.{codes, refl}
+use Rattle.iox2sd_values.proofs.Prelude.{codes, refl}
 use Rattle.iox2_config.specs.Defaults.{default_service, default_node}
 use Rattle.iox2_config.specs.GlobalSettings.{GlobalSettings}
 use Rattle.iox2sd_values.proofs.settings.iox2sd_global_defaults.Goals as goal
@@ -10,7 +10,7 @@ returns c =
       prefix = codes "iox2_";
       service = default_service;
       node = default_node;
-      creation_timeout = c.from_millis.result;
+      creation_timeout = c.from_millis-timeout.result;
     } in (
       whole,
       record {
@@ -18,7 +18,7 @@ returns c =
         prefix = refl;
         service = refl;
         node = refl;
-        creation_timeout = c.from_millis.ensures;
+        creation_timeout = c.from_millis-timeout.ensures;
       },
       rw (c.default.ensures, c.default-2.ensures) at c.global_with.ensures,
     )

@@ -1,7 +1,5 @@
-use Rattle.std.proofs.Common.{arith, refl}
-use Rattle.std.specs.Prelude.{Ok, Err}
+use Rattle.iox2sd_values.proofs.Prelude.{Err, Ok, arith, refl, refuted}
 use Rattle.iox2_texts.specs.declared.bounded.SemanticStringError.TheVariants.{InvalidContent, ExceedsMaximumLength}
-use Rattle.iox2_texts.proofs.VerifyLemmas.{refuted}
 use Rattle.iox2sd_values.proofs.texts.check_name.Goals as goal
 
 pub returns-then-is_name : goal.returns-then-is_name

@@ -1,5 +1,4 @@
-use Rattle.std.proofs.Common.{◌∙◌, ap, sym, get_or}
-use Rattle.std.specs.Prelude.{◌&&◌}
+use Rattle.iox2sd_values.proofs.Prelude.{ap, get_or, sym, ◌&&◌, ◌∙◌}
 use Rattle.std.proofs.lemmas.List.Folds.{list_all_more}
 use Rattle.iox2sd_values.proofs.Legal.{is_legal, reports_text}
 use Rattle.iox2sd_values.proofs.texts.is_text.Goals as goal

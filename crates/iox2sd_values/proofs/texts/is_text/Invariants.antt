@@ -1,5 +1,4 @@
-use Rattle.std.proofs.Common.{◌≡◌, take}
-use Rattle.std.specs.List.{list_all}
+use Rattle.iox2sd_values.proofs.Prelude.{list_all, take, ◌≡◌}
 use Rattle.iox2sd_values.proofs.Legal.{is_legal}
 use Rattle.iox2sd_values.proofs.texts.is_text.Given as goal
 

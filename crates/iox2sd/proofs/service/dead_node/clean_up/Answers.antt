@@ -1,5 +1,4 @@
-use Rattle.std.proofs.Common.{◌≡◌, rules}
-use Rattle.iox2sd.specs.DeadNodes.{Keeps}
+use Rattle.iox2sd.proofs.Names.{Keeps, rules, ◌≡◌}
 use Rattle.iox2_dynamic.proofs.Recoveries.{DeadStep-called}
 use Rattle.iox2sd.proofs.service.dead_node.clean_up.Goals as goal
 

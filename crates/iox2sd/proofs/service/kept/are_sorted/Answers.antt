@@ -1,6 +1,4 @@
-use Rattle.std.proofs.Common.{rules}
-use Rattle.std.proofs.lemmas.List.Sorted.{answers_always}
-use Rattle.iox2sd.specs.DeadNodes.{is_at_most}
+use Rattle.iox2sd.proofs.Names.{answers_always, is_at_most, rules}
 use Rattle.iox2sd.proofs.Keeping.{sorted_from_adjacent}
 use Rattle.iox2sd.proofs.service.kept.are_sorted.Goals as goal
 

@@ -1,6 +1,5 @@
-use Rattle.std.proofs.Common.{◌≡◌, ◌∙◌, refl, rules}
+use Rattle.iox2sd.proofs.Names.{order_at, refl, rules, ◌∙◌, ◌≡◌}
 use Rattle.std.proofs.lemmas.Fn.{answers_by}
-use Rattle.iox2sd.specs.DeadNodes.{order_at}
 use Rattle.iox2sd.proofs.Keeping.{searched}
 use Rattle.iox2sd.proofs.service.kept.is_among_sorted.Goals as goal
 

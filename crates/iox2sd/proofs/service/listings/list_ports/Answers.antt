@@ -1,4 +1,4 @@
-use Rattle.std.proofs.Common.{refl, subst, sym, ◌<◌, ◌≤◌, length}
+use Rattle.iox2sd.proofs.Names.{length, refl, subst, sym, ◌<◌, ◌≤◌}
 use Rattle.iox2sd.proofs.Listings.{counted, at_front, is_first}
 use Rattle.iox2sd.proofs.service.listings.list_ports.Goals as goal
 

@@ -1,4 +1,4 @@
-use Rattle.std.proofs.Common.{rules}
+use Rattle.iox2sd.proofs.Names.{rules}
 use Rattle.iox2sd.proofs.Listings.{both_noted}
 use Rattle.iox2sd.proofs.service.listings.note_all.Goals as goal
 

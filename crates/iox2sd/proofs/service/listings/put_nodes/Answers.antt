@@ -1,5 +1,4 @@
-use Rattle.std.proofs.Common.{◌≡◌, refl, sym, rules}
-use Rattle.iox2sd.proofs.Names.{listed, id_of}
+use Rattle.iox2sd.proofs.Names.{id_of, listed, refl, rules, sym, ◌≡◌}
 use Rattle.iox2sd.proofs.Listings.{all_put}
 use Rattle.iox2sd.proofs.service.listings.put_nodes.Goals as goal
 

@@ -1,4 +1,4 @@
-use Rattle.std.proofs.Common.{◌≡◌, refl, sym, rules}
+use Rattle.iox2sd.proofs.Names.{refl, rules, sym, ◌≡◌}
 use Rattle.iox2sd.proofs.Listings.{kind_put}
 use Rattle.iox2sd.proofs.service.listings.put_second.Goals as goal
 
