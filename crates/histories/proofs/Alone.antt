@@ -251,7 +251,8 @@ module _ {S : Type 0} (Step : S → ℕ → S → Type 0) (slots : List (Option 
 
   added : Settles Step slots (IsNextAt Step slots config slot) [] (settled ∷ [])
   added =
-      settles_call Step slots config slot call (made.state ∷ []) _ _ (here, first.0) first.2
+      settles_call Step slots config slot call (made.state ∷ []) _ _ (here, first.0)
+      (first.2.0, inl first.2.1)
       (settles_only Step slots _ _ _ _ (rw (← first.4, ← first.3)
       (settles_one Step slots (spot_of made) settled _ _ idle
       (gathers_new [] settled (λ i d h. absurd (omega arith))))))

@@ -1,8 +1,8 @@
 -- Configurations that are gathered.
-use Rattle.histories.proofs.Words.{◌≡◌, Option, ℕ, ◌+◌, ◌<◌, ◌⊎◌, List, [], ◌∷◌, ◌++◌, length, take, get_or, refl, sym, ◌∙◌, ap, subst, arith, inl, inr, true, false, bit_at, cases_eq, cases_order, length_push, take_more, All-contains, Contains-append_left, Contains-push, Contains-push_cases, all_pairs_push, slice_set, Config, AreAll, IsSame, IsWaiting, Path, cleared, path_more, path_of, Adds, FromOne, Gathers, IsBegun, IsCopy, IsDone, IsDropped, IsKnown, IsMadeIn, IsNextAt, IsNextBeside, IsNextIn, IsOpened, IsSettled, IsSpot, Settles, Spot, spot_of}
+use Rattle.histories.proofs.Words.{◌≡◌, Option, ℕ, ◌+◌, ◌<◌, ◌⊎◌, List, [], ◌∷◌, ◌++◌, length, take, get_or, refl, sym, ◌∙◌, ap, subst, arith, inl, inr, true, false, bit_at, cases_eq, cases_order, length_push, take_more, All-contains, Contains-append_left, Contains-push, Contains-push_cases, all_pairs_push, slice_set, Config, AreEnough, AllPairs, Contains, map, length-map, ◌≢◌, IsSame, IsWaiting, Path, cleared, path_more, path_of, Adds, FromOne, Gathers, IsBegun, IsCopy, IsDone, IsDropped, IsKnown, IsMadeIn, IsNextAt, IsNextBeside, IsNextIn, IsOpened, IsSettled, IsSpot, Settles, Spot, spot_of}
 use Rattle.histories.specs.Gathering.{IsNext}
 use Rattle.histories.proofs.Bits.{slot_once}
-use Rattle.histories.proofs.Indices.{nothing_in, one_of_one}
+use Rattle.histories.proofs.Indices.{nothing_in, one_of_one, contains_map_of, no_more}
 
 spot_with : {S : Type 0} → S → ℕ → Path → Spot S
 spot_with state waiting made = record { state = state; waiting = waiting; made = made }
@@ -224,26 +224,54 @@ module _ {S : Type 0} (Step : S → ℕ → S → Type 0) (slots : List (Option 
       rw (parts.1, parts.0) (settles_only (IsOpened slot) _ _ _
       (settles_one _ one _ _ begun (gathers_new [] one (λ i d h. absurd (omega arith)))))
 
+  -- where states that differ were found, more than are followed, so are configurations
+  many_found : (from : Config S) (slot call : ℕ) (states : List S) (old new : List (Config S))
+      → 4096 < length states → AllPairs (λ a b. a ≢ b) states
+      → Settles Step slots (FromOne (IsNextIn from slot call) states) old new
+      → ¬ (4096 < length new) → ⊥
+  many_found from slot call states old new many differ g few =
+      let state_of : Config S → S = λ k. k.state in
+      let fewer =
+      no_more states (map state_of new) differ (λ s has.
+      let known =
+      g.complete few (record {
+        state = s;
+        waiting = cleared from.waiting slot;
+        made = path_more (path_of from) (call ∷ []);
+      }) (s, has, (refl, refl, refl)) in
+      subst (Contains (map state_of new)) known.2
+      (contains_map_of state_of new known.0 known.1)) in
+      few (omega (arith, fewer, many, length-map new state_of))
+
   pub settles_call : (from : Config S) (slot call : ℕ) (states : List S)
       (old new : List (Config S)) → IsWaiting slots from.waiting slot call
-      → AreAll (Step from.state call) states
+      → AreEnough (Step from.state call) states
       → Settles Step slots (FromOne (IsNextIn from slot call) states) old new
       → Settles Step slots (IsNextAt Step slots from slot) old new
-  settles_call from slot call states old new waits all g =
-      settles_as _ _ _ _
-      (λ k p. (
+  settles_call from slot call states old new waits enough g =
+      let there : (k : Spot S) → FromOne (IsNextIn from slot call) states k
+      → IsNextAt Step slots from slot k = λ k p. (
         call,
         waits,
-        rw p.2.0 (All-contains (Step from.state call) states p.0 all.0 p.1),
+        rw p.2.0 (All-contains (Step from.state call) states p.0 enough.0 p.1),
         p.2.1,
         p.2.2,
-      ))
-      (λ k p.
-      let same : p.0 ≡ call = slot_once slots slot p.0 call p.1.0 waits.0 in (
-        k.state,
-        all.1 k.state (subst (λ c. Step from.state c k.state) same p.2),
-        (refl, p.3, p.4 ∙ ap (λ c. path_more (path_of from) (c ∷ [])) same),
-      )) g
+      ) in
+      elim enough.1 [
+        | inl all ↦
+            settles_as _ _ _ _ there
+            (λ k p.
+            let same : p.0 ≡ call = slot_once slots slot p.0 call p.1.0 waits.0 in (
+              k.state,
+              all k.state (subst (λ c. Step from.state c k.state) same p.2),
+              (refl, p.3, p.4 ∙ ap (λ c. path_more (path_of from) (c ∷ [])) same),
+            )) g
+        | inr more ↦ record {
+          adds = adds_as _ _ _ _ (λ k p. (p.0, there p.0 p.1, p.2)) g.adds;
+          complete = λ few k q. absurd
+              (many_found from slot call states old new more.0 more.1 g few);
+        }
+      ]
 
   pub settles_state : (from next : Config S) (slot call : ℕ) (state : S)
       (old new : List (Config S)) → next.state ≡ state → next.waiting ≡ cleared from.waiting slot
@@ -262,7 +290,7 @@ module _ {S : Type 0} (Step : S → ℕ → S → Type 0) (slots : List (Option 
       → Settles Step slots (IsCopy next) old new
       → Settles Step slots (IsNextAt Step slots from slot) old new
   settles_made from next made slot call old new waits is state set path g =
-      settles_call from _ _ (made.state ∷ []) _ _ waits is.0
+      settles_call from _ _ (made.state ∷ []) _ _ waits (is.0.0, inl is.0.1)
       (settles_only _ _ _ _ (rw (← state, ← is.2, ← set, ← is.1, ← path) g))
 
   -- one slot more, whose call is made if it waits and is not this one

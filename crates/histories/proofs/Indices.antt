@@ -1,8 +1,9 @@
 -- Lists that are changed index by index, and orders that are read from links.
-use Rattle.histories.proofs.Words.{zero, suc, slice_set, [], ◌∷◌, ◌≡◌, ◌≢◌, ℕ, ◌+◌, ◌<◌, ◌≤◌, List, ◌++◌, take, drop, append-nil, take_all, length, get_or, set, refl, sym, ◌∙◌, ap, arith, Contains, map, get_or-map, cases_eq, cases_lt, Contains-get_or, AreEach, drop_all, get_or-set_other, get_or-set_same, get_or_default, length-set, length-map, Option, None, map-id, take-append-drop, reverse, length-append, append_assoc, get_or-append, get_or-append_seam, get_or_past, length-take-le, reverse-append, take_more, Config, Link, Event, IsFollowed, IsFrontier, Path, no_path, order_at, path_more, AreLaid, Grows, IsLaid, IsLaidOut}
+use Rattle.histories.proofs.Words.{zero, suc, slice_set, [], ◌∷◌, ◌≡◌, ◌≢◌, ℕ, ◌+◌, ◌<◌, ◌≤◌, List, ◌++◌, take, drop, append-nil, take_all, length, get_or, set, refl, sym, ◌∙◌, ap, arith, Contains, map, get_or-map, cases_eq, cases_lt, Contains-get_or, AreEach, drop_all, get_or-set_other, get_or-set_same, get_or_default, length-set, length-map, Option, None, map-id, take-append-drop, reverse, length-append, append_assoc, get_or-append, get_or-append_seam, get_or_past, length-take-le, reverse-append, take_more, Config, Link, Event, IsFollowed, IsFrontier, Path, no_path, order_at, path_more, AreLaid, Grows, IsLaid, IsLaidOut, remove, ◌-◌, AllPairs, inl, inr, cases_order}
 use Rattle.histories.specs.Frontier.{orders, read}
 use Rattle.std.proofs.lemmas.Iterator.Adapters.{YieldsList-from_vec}
 use Rattle.std.proofs.lemmas.Iterator.Consumers.{YieldsList-end}
+use Rattle.std.proofs.lemmas.List.Edits.{get_or-remove_above, get_or-remove_below, length-remove}
 use Rattle.std.specs.Iterator.{Yields}
 use Rattle.std.specs.declared.vec.IntoIter.{IntoIter}
 use Rattle.std.specs.Vec.Iter.{into_iter_items, into_iter_len, into_iter_steps}
@@ -68,6 +69,39 @@ pub one_of_one : {X : Type 0} (xs : List X) (x y : X) → length xs ≡ 1 → x 
 one_of_one [] x y one is = absurd (omega (arith, one))
 one_of_one (z ∷ []) x y one is = (ap (λ v. v ∷ []) (sym is), refl)
 one_of_one (z ∷ w ∷ xs) x y one is = absurd (omega (arith, one))
+
+-- what is no more there once another one is removed was that one
+still : {X : Type 0} (ys : List X) (i : ℕ) (x y : X) → i < length ys → get_or ys i x ≡ x
+    → Contains ys y → y ≢ x → Contains (remove ys i) y
+still ys i x y within is (k, below, has) ne =
+    elim (cases_order k i) [
+      | inl e ↦ absurd (ne (sym has ∙ (ap (λ n. get_or ys n y) e ∙ (get_or_default ys i y x within ∙ is))))
+      | inr (inl less) ↦ (
+        k,
+        omega (arith, less, within, length-remove ys i within),
+        get_or-remove_below ys i y k less within ∙ has,
+      )
+      | inr (inr more) ↦
+          let before : (k - 1) + 1 ≡ k = omega (arith, more) in (
+            k - 1,
+            omega (arith, more, below, length-remove ys i within),
+            get_or-remove_above ys i y (k - 1) (omega (arith, more)) within
+                ∙ (ap (λ n. get_or ys n y) before ∙ has),
+          )
+    ]
+
+-- values that differ, each of which is one of others, are no more than these
+pub no_more : {X : Type 0} (xs ys : List X) → AllPairs (λ a b. a ≢ b) xs
+    → ((x : X) → Contains xs x → Contains ys x) → length xs ≤ length ys
+no_more [] ys differ inside = omega arith
+no_more (x ∷ xs) ys differ inside =
+    let at = inside x (0, omega arith, refl) in
+    let fewer =
+    no_more xs (remove ys at.0)
+    (λ i j d less below. differ (suc i) (suc j) d (omega (arith, less)) (omega (arith, below)))
+    (λ y has. still ys at.0 x y at.1 at.2 (inside y (suc has.0, omega (arith, has.1), has.2))
+    (λ e. differ 0 (suc has.0) y (omega arith) (omega (arith, has.1)) (sym e ∙ sym has.2))) in
+    omega (arith, fewer, length-remove ys at.0 at.1)
 
 -- what stands in the list of the values of others
 pub contains_map_of : {X Y : Type 0} (f : X → Y) (xs : List X) (x : X) → Contains xs x

@@ -20,7 +20,7 @@ pub use Rattle.histories.specs.Advances.{AdvancesIn, Agrees, BeginsAnew, Ends, E
 pub use Rattle.histories.specs.Frontier.{AreComplete, AreSound, HasManyOpen, HasManyOrders, HasSlot, IsFollowed, IsFrontOf, IsFrontier, IsIdle, IsLighter, IsSame, IsSound, IsTable, IsWaiting, LeadTo, Leaves, MovesBefore, Path, Runs, cleared, no_path, order_at, order_of, path_more, path_of, put, read}
 pub use Rattle.histories.specs.Gathering.{Adds, AreChained, AreEach, AreLaid, AreLaidIn, AreLinked, AreOther, AreTaken, ComesFirst, Finishes, FreesSlot, FromOne, Gathers, GoesFrom, GoesOn, Grows, HasMany, IsBegun, IsBeside, IsClosed, IsClosing, IsCopy, IsDone, IsDropped, IsFirst, IsKnown, IsLaid, IsLaidOut, IsLeft, IsMadeFirst, IsMadeFrom, IsMadeIn, IsNextAt, IsNextBeside, IsNextIn, IsOpened, IsSettled, IsSpot, IsUnderWay, IsUnlinked, MovesFirst, Settles, Spot, TakesSlot, WaitsInNone, chain_at, chain_of, ones, spot_of}
 pub use Rattle.histories.specs.Goings.{AgreesOn, GoesOnTo, GoesTo, IsFrontAfter, IsMadeNext, Precedes}
-pub use Rattle.histories.specs.Histories.{AreAll, EndsAt, Explains, HasEnded, IsAnswered, IsExplained, IsHistory, IsOpen, IsOver, Leads, MayFollow, StandsAt, begins, times}
+pub use Rattle.histories.specs.Histories.{AreAll, AreEnough, EndsAt, Explains, HasEnded, IsAnswered, IsExplained, IsHistory, IsOpen, IsOver, Leads, MayFollow, StandsAt, begins, times}
 pub use Rattle.histories.specs.Laws.{CallsAloneAreRuns}
 pub use Rattle.histories.specs.Needed.{AreIdle, AreNeeded, HasCut, IsRest, IsWellFormed, LeavesOutIdle, call_of, events_of, is_kept, states_of}
 pub use Rattle.histories.specs.Windows.{BeginsWindow, CutsAt, IsCut, IsFirstOrder, IsOrder, IsStop, IsStopAt, IsWindowOf, VerdictsExclude}

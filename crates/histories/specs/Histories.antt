@@ -1,5 +1,5 @@
 -- Histories of calls that overlapped, and the orders that explain them.
-use Rattle.std.specs.Prelude.{◌≡◌, ℕ, ◌+◌, ◌<◌, ◌≤◌, ◌⊎◌, List, [], ◌∷◌, take, cond, eqb, Some, All, AllPairs, slice_get}
+use Rattle.std.specs.Prelude.{◌≡◌, ◌≢◌, ℕ, ◌+◌, ◌<◌, ◌≤◌, ◌⊎◌, List, [], ◌∷◌, length, take, cond, eqb, Some, All, AllPairs, slice_get}
 use Rattle.std.specs.List.{Contains}
 use Rattle.histories.specs.declared.event.Event.{Event}
 use Rattle.histories.specs.declared.event.Event.TheVariants.{Begin, End, Crash}
@@ -7,6 +7,14 @@ use Rattle.histories.specs.declared.event.Event.TheVariants.{Begin, End, Crash}
 -- the list has each value that the fact is true of, and no other
 abbrev pub AreAll : {S : Type 0} → (S → Type 0) → List S → Type 0
 AreAll {S} Fact values = All Fact values × ((value : S) → Fact value → Contains values value)
+
+-- it is true of each value in the list; these are all, or more than configurations are followed,
+-- and each is there once
+abbrev pub AreEnough : {S : Type 0} → (S → Type 0) → List S → Type 0
+AreEnough {S} Fact values =
+    All Fact values
+    × (((value : S) → Fact value → Contains values value)
+    ⊎ ((4096 < length values) × AllPairs (λ a b. a ≢ b) values))
 
 -- how often the number stands in the list
 unfoldable pub times : ℕ → List ℕ → ℕ

@@ -1,12 +1,12 @@
 //! What a call leaves.
 
-/// The states that a call may leave.
+/// States that a call may leave.
 #[derive(Drop)]
 pub enum Left<S> {
     /// None: it cannot be made.
     Nothing,
     /// This one alone.
     One(S),
-    /// These.
+    /// These, if they are all, or else more than are followed.
     All(Vec<S>),
 }

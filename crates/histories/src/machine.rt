@@ -1,7 +1,7 @@
 //! What is searched: recorded calls that lead from one state to another.
 ghost use Rattle.std.specs.Prelude.{◌≡◌, ◌↔◌, ℕ, IfOk, IsTrue};
 ghost use Rattle.histories.specs.Frontier.{IsIdle, IsMade, MovesBefore, states_in};
-ghost use Rattle.histories.specs.Histories.{AreAll};
+ghost use Rattle.histories.specs.Histories.{AreEnough};
 
 use super::left::Left;
 use std::alloc::AllocError;
@@ -18,9 +18,10 @@ pub trait Machine {
     /// A number by which a state is found among many. Other states may have the same.
     ghost hash: { Self.State → ℕ };
 
-    /// All states that the call may leave.
+    /// The states that the call may leave: all, or more than `MAX_CONFIGS` of them, each once.
     fn follow(&self, state: &Self::State, call: usize) -> Result<Left<Self::State>, AllocError>
-        ensures { IfOk result (λ left. AreAll (Step self.now state.now call) (states_in left)) };
+        ensures { IfOk result (λ left.
+            AreEnough (Step self.now state.now call) (states_in left)) };
 
     /// Makes the call in this state, if it can leave one state alone. Returns whether it did; else
     /// nothing changed. An answer of no is always right: then the states are listed.

@@ -61,3 +61,27 @@ fn more_configurations_are_not_followed(rt: HostRuntime) -> Result<(), Fail> {
     assert_eq!(rt; verdict_with(rt.alloc(), 13)?, Said::ManyConfigs(44));
     Ok(())
 }
+
+/// The verdict on a log of a service with so many slots of nodes, in which a node is listed that a
+/// call without a reply has registered: it may stand in each of them.
+fn verdict_with_slots(alloc: Global, slots: u64) -> Result<Said, AllocError> {
+    let mut log = String::from_str(alloc, "")?;
+    writeln!(log, "service event 7 {slots} 0 0")?;
+    log.push_str("A> register 1.0.0.1\nnodes\n= list 1000000000000000000000001\n")?;
+    verdict_on(alloc, log.as_bytes())
+}
+
+#[test]
+fn so_many_slots_are_tried_for_a_call_without_a_reply(rt: HostRuntime) -> Result<(), Fail> {
+    for (slots, wanted) in [
+        (4096, Said::Conforms(2, 1)),
+        (4097, Said::ManyConfigs(4)),
+        (u64::MAX, Said::ManyConfigs(4)),
+    ] {
+        assert_eq!(rt;
+            (slots, verdict_with_slots(rt.alloc(), slots)?),
+            (slots, wanted)
+        );
+    }
+    Ok(())
+}

@@ -1,12 +1,13 @@
 -- What calls that were seen do.
-use Rattle.service_conformance.proofs.Prelude.{All-push, All-weaker, AllocError, Contains, Contains-append_left, Contains-push, IfOk, List, None, Option, Result, Some, Vec, [], ap, arith, false, inl, inr, refl, subst, sym, true, ℕ, ◌++◌, ◌+◌, ◌<◌, ◌∙◌, ◌∷◌, ◌≡◌, ◌⊎◌, cases_lt, IfOk-weaker, All-cons, All-nil}
-use Rattle.service_conformance.proofs.Names.{AreAll, ArePossible, ArePossibleWords, AreRepliesOf, ByPort, Call, CallStep, CanServe, ChangesNothing, Command, GivesBelow, Handle, IsCovered, IsIdleCall, IsSameReply, IsService, LeadsOn, LeadsTo, LineReply, MayGiveIn, Part, Possible, PossibleReplies, Reply, SeenReply, Serves, ServesCall, ServesDead, Service, ReadsReply, changes_nothing, handle_in, is_removal, named, quiet, reply_in, seen_text, text_of}
+use Rattle.service_conformance.proofs.Prelude.{All-push, All-weaker, AllocError, Contains, Contains-append_left, Contains-push, IfOk, List, None, Option, Result, Some, Vec, [], ap, arith, false, inl, inr, refl, subst, sym, true, ℕ, ◌++◌, ◌+◌, ◌<◌, ◌∙◌, ◌∷◌, ◌≡◌, ◌⊎◌, cases_lt, IfOk-weaker, All-cons, All-nil, All, get_or, length, ◌≢◌, all_pairs_push}
+use Rattle.service_conformance.proofs.Names.{AreAll, ArePossible, ArePossibleWords, AreRepliesOf, ByPort, Call, CallStep, CanServe, ChangesNothing, Command, GivesBelow, Handle, IsCovered, IsIdleCall, IsSameReply, IsService, LeadsOn, LeadsTo, LineReply, MayGiveIn, Part, Possible, PossibleReplies, Reply, SeenReply, Serves, ServesCall, ServesDead, Service, ReadsReply, changes_nothing, handle_in, is_removal, named, quiet, reply_in, seen_text, text_of, AreEnough, AreGivenBelow}
 use Rattle.service_descriptions.specs.declared.replay.machine.command.Command.TheVariants as command
 use Rattle.service_descriptions.specs.declared.replay.machine.reply.Reply.TheVariants as reply
 use Rattle.service_conformance.specs.declared.conformance.possible.Part.TheVariants as part
 use Rattle.service_conformance.specs.declared.conformance.possible.Possible.TheVariants as possible
 use Rattle.service_conformance.proofs.Following.{attach_stays, deregister_stays, register_stays, release_stays}
 use Rattle.service_conformance.proofs.Seen.{reported_nothing}
+use Rattle.service_conformance.proofs.Slots.{one_slot}
 use Rattle.service_conformance.proofs.Words.{IsPlain, same_handle, same_or_plain, same_reply}
 
 pub all_of_one : {S : Type 0} (Fact : S → Type 0) (x : S) → Fact x
@@ -21,6 +22,21 @@ pub all_as : {S : Type 0} (Fact Other : S → Type 0) (xs : List S) → ((x : S)
     → ((x : S) → Other x → Fact x) → AreAll Fact xs → AreAll Other xs
 all_as Fact Other xs there back all =
     (All-weaker Fact Other there xs all.0, λ x o. all.1 x (back x o))
+
+-- all are enough
+pub enough : {S : Type 0} (Fact : S → Type 0) (xs : List S) → AreAll Fact xs → AreEnough Fact xs
+enough Fact xs all = (all.0, inl all.1)
+
+pub enough_as : {S : Type 0} (Fact Other : S → Type 0) (xs : List S)
+    → ((x : S) → Fact x → Other x) → ((x : S) → Other x → Fact x) → AreEnough Fact xs
+    → AreEnough Other xs
+enough_as Fact Other xs there back enough = (
+  All-weaker Fact Other there xs enough.0,
+  elim enough.1 [
+    | inl all ↦ inl (λ x o. all x (back x o))
+    | inr many ↦ inr many
+  ],
+)
 
 all_and_one : {S : Type 0} (Fact Other : S → Type 0) (xs : List S) (x : S)
     → ((y : S) → Fact y → Other y) → Other x → ((y : S) → Other y → Fact y ⊎ (y ≡ x))
@@ -113,48 +129,86 @@ module _ (call : Call) (s : Service) where
   module _ (p : Part) where
     pub slot_taken : (slot : ℕ) (xs : List Service)
         → ((h : Handle) → h.slot ≡ slot → ¬ (MayGiveIn s p h))
-        → AreAll (GivesBelow call s p slot) xs → AreAll (GivesBelow call s p (slot + 1)) xs
-    slot_taken slot xs never =
-        all_as (GivesBelow call s p slot) (GivesBelow call s p (slot + 1)) xs
-        (λ x g. (g.0, g.1, omega (arith, g.2), g.3))
-        (λ x g. (
-          g.0,
-          g.1,
-          (elim (cases_lt g.0.slot slot) [
-            | inl l ↦ l
-            | inr m ↦ absurd (never g.0 (omega (arith, g.2)) g.1)
-          ]),
-          g.3,
+        → AreGivenBelow call s p slot xs → AreGivenBelow call s p (slot + 1) xs
+    slot_taken slot xs never given = (
+      all_as (GivesBelow call s p slot) (GivesBelow call s p (slot + 1)) xs
+          (λ x g. (g.0, g.1, omega (arith, g.2), g.3))
+          (λ x g. (
+            g.0,
+            g.1,
+            (elim (cases_lt g.0.slot slot) [
+              | inl l ↦ l
+              | inr m ↦ absurd (never g.0 (omega (arith, g.2)) g.1)
+            ]),
+            g.3,
+          )) given.0,
+      given.1,
+    )
+
+    -- a state that was found before is another one
+    given_differs : (slot : ℕ) (xs : List Service) (h : Handle) (next : Service)
+        → IsCovered call.command → h.slot ≡ slot → LeadsOn call s (reply.Handle h) next
+        → All (GivesBelow call s p slot) xs → (k : ℕ) (d : Service) → k < length xs
+        → get_or xs k d ≢ next
+    given_differs slot xs h next covered at on all k d within same =
+        let g = all k d within in
+        absurd (omega (
+          arith,
+          at,
+          g.2,
+          one_slot s next (call.handle ∷ []) call.command covered g.0 h
+              (subst (LeadsOn call s (reply.Handle g.0)) same g.3) on,
         ))
 
     pub slot_given : (slot : ℕ) (xs : List Service) (h : Handle) (next : Service)
-        → h.slot ≡ slot → MayGiveIn s p h
+        → IsCovered call.command → h.slot ≡ slot → MayGiveIn s p h
         → CanServe (ServesCall call s) (reply.Handle h)
         → LeadsTo (ServesCall call s) (reply.Handle h) next
-        → AreAll (GivesBelow call s p slot) xs
-        → AreAll (GivesBelow call s p (slot + 1)) (xs ++ next ∷ [])
-    slot_given slot xs h next at may can leads =
-        all_and_one (GivesBelow call s p slot) (GivesBelow call s p (slot + 1)) xs next
-        (λ x g. (g.0, g.1, omega (arith, g.2), g.3))
-        (h, may, omega (arith, at), leads_on (reply.Handle h) next can leads)
-        (λ x g. (elim (cases_lt g.0.slot slot) [
-          | inl l ↦ inl (g.0, g.1, l, g.3)
-          | inr m ↦ inr (one_next (reply.Handle h) next x leads
-              (subst (λ k. LeadsOn call s (reply.Handle k) x)
-              (same_given s p g.0 h g.1 may (omega (arith, at, g.2))) g.3))
-        ]))
+        → AreGivenBelow call s p slot xs
+        → AreGivenBelow call s p (slot + 1) (xs ++ next ∷ [])
+    slot_given slot xs h next covered at may can leads given =
+        let on = leads_on (reply.Handle h) next can leads in (
+          all_and_one (GivesBelow call s p slot) (GivesBelow call s p (slot + 1)) xs next
+              (λ x g. (g.0, g.1, omega (arith, g.2), g.3))
+              (h, may, omega (arith, at), on)
+              (λ x g. (elim (cases_lt g.0.slot slot) [
+                | inl l ↦ inl (g.0, g.1, l, g.3)
+                | inr m ↦ inr (one_next (reply.Handle h) next x leads
+                    (subst (λ k. LeadsOn call s (reply.Handle k) x)
+                    (same_given s p g.0 h g.1 may (omega (arith, at, g.2))) g.3))
+              ])) given.0,
+          all_pairs_push (λ a b. a ≢ b) xs next given.1
+              (given_differs slot xs h next covered at on given.0.0),
+        )
 
-    pub all_given : IsService s → quiet s ≡ s → call.words ≡ None
-        → ArePossible s (ServesCall call s) (possible.Given p)
-        → (limit : ℕ) → ((h : Handle) → MayGiveIn s p h → h.slot < limit) → (xs : List Service)
-        → AreAll (GivesBelow call s p limit) xs → AreAll (CallStep call s) xs
-    all_given is rest none all limit below xs =
-        all_as (GivesBelow call s p limit) (CallStep call s) xs
-        (λ x g. (is, rest, (reply.Handle g.0, rw none tt, g.3)))
-        (λ x step.
-        let on = step.2.2 in
-        let a = all.only step.2.0 on.0 on.1 on.2 in
-        (a.0, a.2, below a.0 a.2, subst (λ q. LeadsOn call s q x) a.1 on))
+    pub none_given : (xs : List Service) → xs ≡ [] → AreGivenBelow call s p 0 xs
+    none_given xs none =
+        rw none (
+          all_of_none (GivesBelow call s p 0) (λ x g. absurd (omega (arith, g.2))),
+          λ i j d less below. absurd (omega (arith, below)),
+        )
+
+    module _ (is : IsService s) (rest : quiet s ≡ s) (none : call.words ≡ None) where
+      given_step : (limit : ℕ) (x : Service) → GivesBelow call s p limit x → CallStep call s x
+      given_step limit x g = (is, rest, (reply.Handle g.0, rw none tt, g.3))
+
+      pub all_given : ArePossible s (ServesCall call s) (possible.Given p)
+          → (limit : ℕ) → ((h : Handle) → MayGiveIn s p h → h.slot < limit) → (xs : List Service)
+          → AreGivenBelow call s p limit xs → AreEnough (CallStep call s) xs
+      all_given all limit below xs given =
+          enough (CallStep call s) xs
+          (all_as (GivesBelow call s p limit) (CallStep call s) xs (given_step limit)
+          (λ x step.
+          let on = step.2.2 in
+          let a = all.only step.2.0 on.0 on.1 on.2 in
+          (a.0, a.2, below a.0 a.2, subst (λ q. LeadsOn call s q x) a.1 on)) given.0)
+
+      pub many_given : (limit : ℕ) (xs : List Service) → AreGivenBelow call s p limit xs
+          → 4096 < length xs → AreEnough (CallStep call s) xs
+      many_given limit xs given many = (
+        All-weaker (GivesBelow call s p limit) (CallStep call s) (given_step limit) xs given.0.0,
+        inr (many, given.1),
+      )
 
 module _ (call : Call) (covered : IsCovered call.command) (seen : SeenReply)
     (has : call.words ≡ Some (seen_text seen)) (nothing : changes_nothing seen ≡ true) where

@@ -13,6 +13,7 @@ pub mod Following
 pub mod Words
 pub mod Dying
 pub mod Seen
+mod Slots
 pub mod Calls
 pub mod Looking
 pub mod Judged

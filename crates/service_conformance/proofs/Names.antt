@@ -1,6 +1,6 @@
 -- The definitions and types that the proofs cite.
 pub use Rattle.histories.specs.Frontier.{IsIdle, IsMade, MovesBefore, states_in}
-pub use Rattle.histories.specs.Histories.{AreAll, IsExplained, Leads}
+pub use Rattle.histories.specs.Histories.{AreAll, AreEnough, IsExplained, Leads}
 pub use Rattle.histories.specs.Laws.{calls_alone}
 pub use Rattle.histories.specs.declared.left.Left.{Left}
 pub use Rattle.iox2_config.specs.declared.hash.input.PatternKind.{PatternKind}
@@ -39,7 +39,7 @@ pub use Rattle.line_streams.specs.OneWay.{listed_one, number_one}
 pub use Rattle.line_streams.specs.Spelling.{EndsNumber, OthersFit, Reads, Spelling, after, line_end, number, others_text, sequence}
 pub use Rattle.line_streams.specs.declared.phrase.LineEnd.TheVariants.{Bytes}
 pub use Rattle.service_conformance.specs.Alone.{Answered, Gives, IsBare, IsBounded, IsBoundedRegistry, added_role, handle_named, judged_of}
-pub use Rattle.service_conformance.specs.Calls.{AreRepliesOf, Call, CallStep, ChangesNothing, GivesBelow, HasNumber, HasWords, IsIdleCall, LacksNumber, LeadsOn, ServesCall, answered, at_first, call_of, handle_for}
+pub use Rattle.service_conformance.specs.Calls.{AreRepliesOf, Call, CallStep, ChangesNothing, GivesBelow, HasNumber, HasWords, IsIdleCall, LacksNumber, LeadsOn, ServesCall, answered, at_first, call_of, handle_for, AreGivenBelow}
 pub use Rattle.service_conformance.specs.Dead.{after_dead, goes, is_kept, nodes_if, ports_after, stays, without_node, without_ports}
 pub use Rattle.service_conformance.specs.Entries.{HasAt, IsAt, IsFreePosition, MayGive, Refuses, StandsAt, slot_entry, with_left}
 pub use Rattle.service_conformance.specs.Given.{Becomes, GivesNode, GivesNodes, GivesPort, GivesPorts, IsBefore, IsUnused, MayStand, StandsLast, UsedSo, with_last, with_nodes, with_ports, with_used}

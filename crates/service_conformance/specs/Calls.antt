@@ -1,6 +1,7 @@
 -- Calls as they were seen, and what they do.
-use Rattle.std.specs.Prelude.{◌+◌, ◌<◌, ◌↔◌, ◌∷◌, ◌≡◌, List, None, Option, Some, [], slice_get, ℕ}
+use Rattle.std.specs.Prelude.{◌+◌, ◌<◌, ◌↔◌, ◌∷◌, ◌≡◌, List, None, Option, Some, [], slice_get, ℕ, ◌≢◌, AllPairs}
 use Rattle.service_conformance.specs.Prelude.{Command, Handle, IsService, Reply, Serves, Service, option_map, text_of}
+use Rattle.histories.specs.Histories.{AreAll}
 use Rattle.iox2_container.specs.declared.container.role.Role.{Role}
 use Rattle.iox2_container.specs.declared.container.role.Role.TheVariants as role
 use Rattle.iox2_dynamic.specs.Details.{role_of}
@@ -66,6 +67,11 @@ LeadsOn call s r new =
 abbrev pub GivesBelow : Call → Service → Part → ℕ → Service → Type 0
 GivesBelow call s p limit new =
     (h : Handle) × MayGiveIn s p h × (h.slot < limit) × LeadsOn call s (reply.Handle h) new
+
+-- these are the services that it leads to so, each once
+abbrev pub AreGivenBelow : Call → Service → Part → ℕ → List Service → Type 0
+AreGivenBelow call s p limit found =
+    AreAll (GivesBelow call s p limit) found × AllPairs (λ a b. a ≢ b) found
 
 -- From a service of which no touch is counted, the call leads with a reply of its words to one that
 -- is seen as the new one.

@@ -2,7 +2,7 @@
 ghost use Rattle.std.specs.Option.{option_map};
 ghost use Rattle.std.specs.Prelude.{◌≡◌, ℕ, IfOk, IfSome, IsTrue, None, OnErr, OnOk, map};
 ghost use Rattle.histories.specs.Frontier.{IsMade, states_in};
-ghost use Rattle.histories.specs.Histories.{AreAll};
+ghost use Rattle.histories.specs.Histories.{AreEnough};
 ghost use Rattle.service_conformance.specs.Judged.{AreJudgedReplies, IsIdleJudged, JudgedStep};
 ghost use Rattle.service_conformance.specs.Judged.{MayStop, StartsLook, ids_seen, judged_answered};
 ghost use Rattle.service_conformance.specs.Judged.{role_added, shown, stopped};
@@ -102,7 +102,7 @@ fn watched_all(
     Ok(states)
 }
 
-/// All states that the call leaves.
+/// The states that the call leaves: all, or more than are followed.
 fn follow_call(
     alloc: Global,
     number: usize,
@@ -110,7 +110,7 @@ fn follow_call(
     state: &WatchedService,
 ) -> Result<Left<WatchedService>, AllocError>
     ensures { IfOk result (λ left.
-        AreAll (JudgedStep number (call made.now) state.now) (states_in left)) }
+        AreEnough (JudgedStep number (call made.now) state.now) (states_in left)) }
 {
     match made.follow(alloc, state.service())? {
         Left::Nothing => Ok(Left::Nothing),
@@ -250,7 +250,7 @@ impl JudgedCall {
         }
     }
 
-    /// All states that it leaves.
+    /// The states that it leaves: all, or more than are followed.
     pub(super) fn follow(
         &self,
         alloc: Global,
@@ -258,7 +258,7 @@ impl JudgedCall {
         state: &WatchedService,
     ) -> Result<Left<WatchedService>, AllocError>
         ensures { IfOk result (λ left.
-            AreAll (JudgedStep number self.now state.now) (states_in left)) }
+            AreEnough (JudgedStep number self.now state.now) (states_in left)) }
     {
         match &self.what {
             What::Call(made) => follow_call(alloc, number, made, state),

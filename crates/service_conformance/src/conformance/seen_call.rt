@@ -1,8 +1,8 @@
 //! Calls that were seen.
 ghost use Rattle.std.specs.Prelude.{◌≡◌, ◌+◌, IfNone, IfOk, IfSome, IsTrue, None, OnErr, OnOk, Some};
 ghost use Rattle.histories.specs.Frontier.{IsMade, states_in};
-ghost use Rattle.histories.specs.Histories.{AreAll};
-ghost use Rattle.service_conformance.specs.Calls.{AreRepliesOf, CallStep, ChangesNothing, GivesBelow};
+ghost use Rattle.histories.specs.Histories.{AreEnough};
+ghost use Rattle.service_conformance.specs.Calls.{AreGivenBelow, AreRepliesOf, CallStep, ChangesNothing};
 ghost use Rattle.service_conformance.specs.Calls.{IsIdleCall, ServesCall};
 ghost use Rattle.service_conformance.specs.Calls.{answered, call_of, command_adds};
 ghost use Rattle.service_conformance.specs.Movers.{IsChange};
@@ -19,7 +19,7 @@ use super::possible::{Part, Possible, PossibleReplies};
 use super::request::Request;
 use super::seen_reply::{SeenReply, changes_nothing};
 use super::service_check::ServiceCheck;
-use histories::Left;
+use histories::{Left, MAX_CONFIGS};
 use iox2_container::container::{ContainerHandle, Role};
 use service_descriptions::replay::LineCommand;
 use std::alloc::{AllocError, Global};
@@ -153,9 +153,10 @@ impl SeenCall {
         slot: usize,
         found: &mut Vec<ServiceCheck>,
     ) -> Result<(), AllocError>
-        requires { ArePossible state.now (ServesCall self.now state.now) (possible.Given part) }
-        ensures { OnOk result (AreAll (GivesBelow self.now state.now part slot) found.old.items
-            → AreAll (GivesBelow self.now state.now part (slot + 1)) found.new.items) }
+        requires covered { IsCovered self.now.command }
+        requires all { ArePossible state.now (ServesCall self.now state.now) (possible.Given part) }
+        ensures { OnOk result (AreGivenBelow self.now state.now part slot found.old.items
+            → AreGivenBelow self.now state.now part (slot + 1) found.new.items) }
     {
         let Some(handle) = state.next_in_slot(part, slot) else {
             return Ok(());
@@ -165,7 +166,8 @@ impl SeenCall {
         Ok(())
     }
 
-    /// The states that an add leaves: one for each free slot of the registry of the part.
+    /// The states that an add leaves: one for each free slot of the registry of the part, but no
+    /// more than one above `MAX_CONFIGS`.
     fn follow_add(
         &self,
         alloc: Global,
@@ -173,24 +175,28 @@ impl SeenCall {
         part: Part,
     ) -> Result<Vec<ServiceCheck>, AllocError>
         requires words { self.now.words ≡ None }
+        requires covered { IsCovered self.now.command }
         requires all { ArePossible state.now (ServesCall self.now state.now) (possible.Given part) }
-        ensures { IfOk result (λ found. AreAll (CallStep self.now state.now) found.items) }
+        ensures { IfOk result (λ found. AreEnough (CallStep self.now state.now) found.items) }
     {
         let mut found = Vec::new(alloc);
         for slot in 0..state.capacity(part) {
+            if found.len() > MAX_CONFIGS {
+                return Ok(found);
+            }
             self.follow_slot(alloc, state, part, slot, &mut found)?;
         }
         Ok(found)
     }
 
-    /// The states that the call leaves with any reply.
+    /// The states that the call leaves with any reply: all, or more than `MAX_CONFIGS`, each once.
     fn follow_any(
         &self,
         alloc: Global,
         state: &ServiceCheck,
     ) -> Result<Left<ServiceCheck>, AllocError>
         requires { self.now.words ≡ None }
-        ensures { IfOk result (λ left. AreAll (CallStep self.now state.now) (states_in left)) }
+        ensures { IfOk result (λ left. AreEnough (CallStep self.now state.now) (states_in left)) }
     {
         match self.possible(alloc, state)? {
             Possible::One(reply) => Ok(Left::One(self.state_after(alloc, state, &reply)?)),
@@ -198,13 +204,13 @@ impl SeenCall {
         }
     }
 
-    /// All states that the call leaves: with a reply that was seen one, or none.
+    /// The states that the call leaves: with a reply that was seen one, or none.
     pub(super) fn follow(
         &self,
         alloc: Global,
         state: &ServiceCheck,
     ) -> Result<Left<ServiceCheck>, AllocError>
-        ensures { IfOk result (λ left. AreAll (CallStep self.now state.now) (states_in left)) }
+        ensures { IfOk result (λ left. AreEnough (CallStep self.now state.now) (states_in left)) }
     {
         let Some(seen) = self.seen() else {
             return self.follow_any(alloc, state);
