@@ -21,7 +21,6 @@ pub mod Refused
 pub mod Starts
 pub mod Refusing
 pub mod Reports
-pub mod Streams
 pub mod Telling
 pub mod Needing
 pub mod Shortened

@@ -1,8 +1,10 @@
 -- In which order calls took effect.
-use Rattle.std.specs.Prelude.{◌≡◌, ℕ, Bool, true, false, List, [], ◌++◌, Option}
+use Rattle.std.specs.Prelude.{◌≡◌, ℕ, List, [], ◌++◌, Option}
 use Rattle.std.specs.Io.KnownBytes.{Appends}
 use Rattle.std.specs.List.{AllZip, flat_map}
 use Rattle.histories.specs.Windows.{IsOrder}
+use Rattle.history_logs.specs.declared.logs.streams.Report.{Report}
+use Rattle.history_logs.specs.declared.logs.streams.Report.TheVariants as report
 use Rattle.history_logs.specs.declared.logs.verdict.Order.{Order}
 use Rattle.history_logs.specs.declared.logs.verdict.Verdict.{Verdict}
 use Rattle.history_logs.specs.declared.logs.verdict.Verdict.TheVariants as verdict
@@ -31,19 +33,18 @@ IsWitness bytes v text =
     (orders : List Order) × HasOrders bytes v orders
     × (text ≡ report_text v ++ flat_map order_text orders)
 
--- the text reports the verdict: with the orders, if they are wanted
-abbrev pub IsTextOf : Bool → List ℕ → Verdict → List ℕ → Type 0
-IsTextOf true log v text = IsWitness log v text
-IsTextOf false log v text = text ≡ report_text v
+-- the text is what is to be reported
+abbrev pub IsTextOf : Report → List ℕ → Verdict → List ℕ → Type 0
+IsTextOf report.Verdict log v text = text ≡ report_text v
+IsTextOf report.Witness log v text = IsWitness log v text
 
--- The log was judged in one way: that is the status, and the writers got a text that reports it,
--- with the orders, if they are wanted.
-pub record ReportedWith (with_orders : Bool) (log : List ℕ) (status : ℕ)
+-- The log was judged in one way: that is the status, and the writers got what is to be reported.
+pub record Reported (wanted : Report) (log : List ℕ) (status : ℕ)
     (out_old out_new err_old err_new : Option (List ℕ)) : Type 0 where
   pub end : Verdict
   pub judged : Judged log end
   pub reported : status ≡ status_of end
   pub text : List ℕ
-  pub is : IsTextOf with_orders log end text
+  pub is : IsTextOf wanted log end text
   pub output : Appends out_old out_new (on_output end text)
   pub errors : Appends err_old err_new (on_errors end text)

@@ -1,7 +1,6 @@
 -- What is written of a verdict.
-use Rattle.std.specs.Prelude.{◌≡◌, ◌==◌, ℕ, ◌+◌, ◌-◌, nat_lt, if◌then◌else◌, List, [], ◌∷◌, ◌++◌, codes, Option}
+use Rattle.std.specs.Prelude.{◌≡◌, ◌==◌, ℕ, ◌+◌, ◌-◌, nat_lt, if◌then◌else◌, List, [], ◌∷◌, ◌++◌, codes}
 use Rattle.std.specs.Fmt.{decimal}
-use Rattle.std.specs.Io.KnownBytes.{Appends}
 use Rattle.std.specs.List.{flat_map}
 use Rattle.iox2_dynamic.specs.declared.dynamic_config.port_details.PortDetails.{PortDetails}
 use Rattle.service_descriptions.specs.Replies.{id_word, port_word, text_of}
@@ -18,7 +17,6 @@ use Rattle.service_conformance.specs.declared.conformance.possible.NextHandle.{N
 use Rattle.service_conformance.specs.declared.conformance.possible.PossibleList.{PossibleList}
 use Rattle.service_conformance.specs.declared.conformance.possible.PossibleReplies.{PossibleReplies}
 use Rattle.service_conformance.specs.declared.conformance.possible.PossibleReplies.TheVariants as replies
-use Rattle.history_logs.specs.Logs.{Judged}
 
 -- a space and a number
 abbrev pub number_word : ℕ → List ℕ
@@ -207,18 +205,6 @@ on_errors (verdict.Conforms n m) text = []
 on_errors (verdict.Refused reported) text = []
 on_errors _ text = text
 
--- what the output gets: the report on the replies
-abbrev pub output_text : Verdict → List ℕ
-output_text (verdict.Conforms n m) = conforms_text n m
-output_text (verdict.Refused reported) = refusal_text reported
-output_text _ = []
-
--- what the errors get: the report on what cannot be judged
-abbrev pub errors_text : Verdict → List ℕ
-errors_text (verdict.Conforms n m) = []
-errors_text (verdict.Refused reported) = []
-errors_text v = report_text v
-
 -- the status of the program
 abbrev pub status_of : Verdict → ℕ
 status_of (verdict.Conforms n m) = 0
@@ -226,12 +212,3 @@ status_of (verdict.Refused reported) = 1
 status_of (verdict.ManyConfigs k) = 2
 status_of (verdict.ManyOpen k) = 2
 status_of (verdict.BadLine k e) = 2
-
--- the log was judged in one way: that is the status, and the writers got what fits it
-pub record Reported (log : List ℕ) (status : ℕ)
-    (out_old out_new err_old err_new : Option (List ℕ)) : Type 0 where
-  pub end : Verdict
-  pub judged : Judged log end
-  pub reported : status ≡ status_of end
-  pub output : Appends out_old out_new (output_text end)
-  pub errors : Appends err_old err_new (errors_text end)

@@ -32,7 +32,7 @@ use reading::{Reading, read_log};
 use report::{append_orders, append_report};
 use service::LogService;
 use std::alloc::{AllocError, Global};
-pub use streams::{check_streams, check_witness_streams};
+pub use streams::{Report, check_streams};
 pub use verdict::{Configuration, Expected, Order, Refusal, Verdict};
 
 /// How many calls were read.

@@ -1,6 +1,6 @@
 //! Counts of the lines that were read.
 
-use history_logs::logs::{Counts, check_streams};
+use history_logs::logs::{Counts, Report, check_streams};
 use service_descriptions_tests::failing_streams::{Calls, Sink, Source};
 use std::alloc::{AllocError, Global};
 use std::cell::Cell;
@@ -80,7 +80,14 @@ fn shown(alloc: Global, log: &[u8], step: u64, is_terminal: bool, failing: Optio
         shown: &mut terminal,
     };
     let mut counts = Counts::new(alloc, clock, out, is_terminal);
-    let _status = check_streams(alloc, &mut input, &mut output, &mut errors, &mut counts);
+    let _status = check_streams(
+        alloc,
+        &mut input,
+        &mut output,
+        &mut errors,
+        &mut counts,
+        Report::Verdict,
+    );
     terminal
 }
 

@@ -1,6 +1,6 @@
 //! Logs that come from streams.
 
-use history_logs::logs::{NoProgress, check_streams};
+use history_logs::logs::{NoProgress, Report, check_streams};
 use service_descriptions_tests::failing_streams::{Calls, Sink, Source};
 use std::alloc::Global;
 use std::io::ErrorKind;
@@ -34,7 +34,14 @@ fn judge(alloc: Global, log: &str, failing: [Option<u64>; 3]) -> Ended {
     };
     let mut output = sink(alloc, of_output);
     let mut errors = sink(alloc, of_errors);
-    let status = check_streams(alloc, &mut input, &mut output, &mut errors, &mut NoProgress);
+    let status = check_streams(
+        alloc,
+        &mut input,
+        &mut output,
+        &mut errors,
+        &mut NoProgress,
+        Report::Verdict,
+    );
     Ended {
         status,
         output: output.bytes,

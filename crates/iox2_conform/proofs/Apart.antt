@@ -3,6 +3,7 @@ use Rattle.std.proofs.Common.{◌≡◌, ◌∙◌, ℕ, List, [], ◌∷◌, Re
 use Rattle.std.specs.declared.alloc.Global.{Global}
 use Rattle.std.specs.declared.io.Error.{Error}
 use Rattle.std.specs.declared.vec.IntoIter.{IntoIter}
+use Rattle.history_logs.specs.declared.logs.streams.Report.TheVariants as report
 use Rattle.iox2_conform.specs.declared.request.Request.TheVariants.{Help}
 use Rattle.iox2_conform.specs.Program.{RequestsCheck}
 use Rattle.iox2_conform.specs.Requests.{Requests}
@@ -21,16 +22,16 @@ help_is_alone words two help other = ap length (sym help ∙ other)
 -- arguments that request help request no check
 pub help_is_no_check : (arguments : Result (IntoIter (String Global) Global) Error)
     → Requests arguments (Ok Help) → RequestsCheck arguments → ⊥
-help_is_no_check (Ok words) help (inl check) =
-    let e : 1 ≡ 0 = help_is_alone _ _ help check in grind (arith)
-help_is_no_check (Ok words) help (inr (inl witness)) =
+help_is_no_check (Ok words) help (inl (report.Verdict, none)) =
+    let e : 1 ≡ 0 = help_is_alone _ _ help none in grind (arith)
+help_is_no_check (Ok words) help (inl (report.Witness, witness)) =
     let e : 6 ≡ 9 = help_is_no_other _ _ help witness in grind (arith)
-help_is_no_check (Ok words) help (inr (inr (inl picture))) =
+help_is_no_check (Ok words) help (inr (inl picture)) =
     let e : 6 ≡ 3 = help_is_no_other _ _ help picture in grind (arith)
-help_is_no_check (Ok words) help (inr (inr (inr (inl progress)))) =
+help_is_no_check (Ok words) help (inr (inr (report.Verdict, progress))) =
     let e : 6 ≡ 10 = help_is_no_other _ _ help progress in grind (arith)
-help_is_no_check (Ok words) help (inr (inr (inr (inr (inl both))))) =
+help_is_no_check (Ok words) help (inr (inr (report.Witness, inl both))) =
     let e : 1 ≡ 2 = help_is_alone _ _ help both in grind (arith)
-help_is_no_check (Ok words) help (inr (inr (inr (inr (inr both))))) =
+help_is_no_check (Ok words) help (inr (inr (report.Witness, inr both))) =
     let e : 1 ≡ 2 = help_is_alone _ _ help both in grind (arith)
 help_is_no_check (Err why) help asked = help

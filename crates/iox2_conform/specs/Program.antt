@@ -1,43 +1,36 @@
 -- What the streams of the program get.
-use Rattle.std.specs.Prelude.{◌≡◌, ◌⊎◌, ℕ, List, Option, IfSome, Result, Ok, Err, String, true}
+use Rattle.std.specs.Prelude.{◌≡◌, ◌⊎◌, ℕ, List, Option, IfSome, Result, Ok, Err, String}
 use Rattle.std.specs.declared.alloc.Global.{Global}
 use Rattle.std.specs.declared.vec.IntoIter.{IntoIter}
 use Rattle.std.specs.declared.io.Error.{Error}
 use Rattle.history_drawing.specs.Drawings.{DrawnWith}
-use Rattle.history_logs.specs.Orders.{ReportedWith}
-use Rattle.history_logs.specs.Reports.{Reported}
+use Rattle.history_logs.specs.Orders.{Reported}
+use Rattle.history_logs.specs.declared.logs.streams.Report.{Report}
 use Rattle.iox2_conform.specs.declared.TheConstants.{BAD_ARGUMENT, HELP, VERSION}
 use Rattle.iox2_conform.specs.declared.request.Request.{Request}
-use Rattle.iox2_conform.specs.declared.request.Request.TheVariants.{Check, Help, Picture, Version, Witness}
-use Rattle.iox2_conform.specs.declared.request.Request.TheVariants.{CheckWithProgress, WitnessWithProgress}
+use Rattle.iox2_conform.specs.declared.request.Request.TheVariants.{Check, CheckWithProgress, Help, Picture, Version}
 use Rattle.iox2_conform.specs.declared.request.RequestError.{RequestError}
 use Rattle.iox2_conform.specs.declared.request.RequestError.TheVariants.{BadArgument, NoMemory}
 use Rattle.iox2_conform.specs.Requests.{Printed, Requests}
 
 -- progress is requested
 abbrev pub RequestsProgress : Result (IntoIter (String Global) Global) Error → Type 0
-RequestsProgress arguments =
-    Requests arguments (Ok CheckWithProgress) ⊎ Requests arguments (Ok WitnessWithProgress)
+RequestsProgress arguments = (wanted : Report) × Requests arguments (Ok (CheckWithProgress wanted))
 
--- a check is requested, with a witness or with a picture or with neither
+-- a check is requested, or a picture
 abbrev pub RequestsCheck : Result (IntoIter (String Global) Global) Error → Type 0
 RequestsCheck arguments =
-    Requests arguments (Ok Check)
-    ⊎ (Requests arguments (Ok Witness)
-    ⊎ (Requests arguments (Ok Picture) ⊎ RequestsProgress arguments))
+    ((wanted : Report) × Requests arguments (Ok (Check wanted)))
+    ⊎ (Requests arguments (Ok Picture) ⊎ RequestsProgress arguments)
 
 -- what the streams get for a request, where the status is below 3: the verdict on the log that the
 -- reader gives, if its bytes are known, or its picture, or one text
 abbrev pub Runs : Result Request RequestError → ℕ → Option (List ℕ)
     → Option (List ℕ) → Option (List ℕ) → Option (List ℕ) → Option (List ℕ) → Type 0
-Runs (Ok Check) status input out_old out_new err_old err_new =
-    IfSome input (λ log. Reported log status out_old out_new err_old err_new)
-Runs (Ok CheckWithProgress) status input out_old out_new err_old err_new =
-    IfSome input (λ log. Reported log status out_old out_new err_old err_new)
-Runs (Ok Witness) status input out_old out_new err_old err_new =
-    IfSome input (λ log. ReportedWith true log status out_old out_new err_old err_new)
-Runs (Ok WitnessWithProgress) status input out_old out_new err_old err_new =
-    IfSome input (λ log. ReportedWith true log status out_old out_new err_old err_new)
+Runs (Ok (Check wanted)) status input out_old out_new err_old err_new =
+    IfSome input (λ log. Reported wanted log status out_old out_new err_old err_new)
+Runs (Ok (CheckWithProgress wanted)) status input out_old out_new err_old err_new =
+    IfSome input (λ log. Reported wanted log status out_old out_new err_old err_new)
 Runs (Ok Picture) status input out_old out_new err_old err_new =
     IfSome input (λ log. DrawnWith log status out_old out_new err_old err_new)
 Runs (Ok Help) status input out_old out_new err_old err_new =

@@ -7,9 +7,9 @@ use Rattle.std.specs.declared.alloc.Global.{Global}
 use Rattle.std.specs.declared.vec.IntoIter.{IntoIter}
 use Rattle.std.specs.declared.io.Error.{Error}
 use Rattle.std.specs.declared.io.ErrorKind.TheVariants.{OutOfMemory}
+use Rattle.history_logs.specs.declared.logs.streams.Report.TheVariants as report
 use Rattle.iox2_conform.specs.declared.request.Request.{Request}
-use Rattle.iox2_conform.specs.declared.request.Request.TheVariants.{Check, Help, Picture, Version, Witness}
-use Rattle.iox2_conform.specs.declared.request.Request.TheVariants.{CheckWithProgress, WitnessWithProgress}
+use Rattle.iox2_conform.specs.declared.request.Request.TheVariants.{Check, CheckWithProgress, Help, Picture, Version}
 use Rattle.iox2_conform.specs.declared.request.RequestError.{RequestError}
 use Rattle.iox2_conform.specs.declared.request.RequestError.TheVariants.{BadArgument, NoMemory}
 
@@ -25,10 +25,10 @@ IsBoth words =
 
 -- what the words after the program's name request
 abbrev pub RequestsIn : List (List ℕ) → Result Request RequestError → Type 0
-RequestsIn words (Ok Check) = words ≡ []
-RequestsIn words (Ok CheckWithProgress) = words ≡ codes "--progress" ∷ []
-RequestsIn words (Ok Witness) = words ≡ codes "--witness" ∷ []
-RequestsIn words (Ok WitnessWithProgress) = IsBoth words
+RequestsIn words (Ok (Check report.Verdict)) = words ≡ []
+RequestsIn words (Ok (Check report.Witness)) = words ≡ codes "--witness" ∷ []
+RequestsIn words (Ok (CheckWithProgress report.Verdict)) = words ≡ codes "--progress" ∷ []
+RequestsIn words (Ok (CheckWithProgress report.Witness)) = IsBoth words
 RequestsIn words (Ok Picture) = words ≡ codes "svg" ∷ []
 RequestsIn words (Ok Help) = words ≡ codes "--help" ∷ []
 RequestsIn words (Ok Version) = words ≡ codes "--version" ∷ []

@@ -10,7 +10,7 @@ ghost use Rattle.iox2_conform.specs.Program.{Ran, RequestsCheck, RequestsProgres
 mod request;
 
 use history_drawing::draw_streams;
-use history_logs::logs::{Counts, NoProgress, Progress, check_streams, check_witness_streams};
+use history_logs::logs::{Counts, NoProgress, Progress, check_streams};
 use line_streams::{Sink, Source};
 use request::{Request, RequestError, print, request_of};
 use std::alloc::Global;
@@ -84,13 +84,11 @@ fn conform_streams<R: Source, W: Sink, E: Sink, P: Progress>(
     ensures still { ¬ (RequestsProgress arguments) → progress.new ≡ progress.old }
 {
     match request_of(arguments) {
-        Ok(Request::Check) => check_streams(alloc, input, output, errors, &mut NoProgress),
-        Ok(Request::CheckWithProgress) => check_streams(alloc, input, output, errors, progress),
-        Ok(Request::Witness) => {
-            check_witness_streams(alloc, input, output, errors, &mut NoProgress)
+        Ok(Request::Check(report)) => {
+            check_streams(alloc, input, output, errors, &mut NoProgress, report)
         }
-        Ok(Request::WitnessWithProgress) => {
-            check_witness_streams(alloc, input, output, errors, progress)
+        Ok(Request::CheckWithProgress(report)) => {
+            check_streams(alloc, input, output, errors, progress, report)
         }
         Ok(Request::Picture) => draw_streams(alloc, input, output, errors),
         Ok(Request::Help) => print(output, HELP, 0),

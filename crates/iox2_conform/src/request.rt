@@ -4,6 +4,7 @@ ghost use Rattle.std.specs.Io.KnownBytes.{Appends};
 ghost use Rattle.iox2_conform.specs.Requests.{Printed, Requests, RequestsIn, words_of};
 ghost use Rattle.line_streams.specs.Streams.{Fails, IsFlushed};
 
+use history_logs::logs::Report;
 use line_streams::{Sink, write_whole};
 use std::env::Args;
 use std::io;
@@ -11,14 +12,10 @@ use std::io::{Error, ErrorKind};
 
 /// What is requested.
 pub(crate) enum Request {
-    /// To judge the log on the standard input.
-    Check,
+    /// To judge the log on the standard input, and to report this of it.
+    Check(Report),
     /// The same, and to show how far it was read.
-    CheckWithProgress,
-    /// To judge it, and to print an order of the calls where it conforms.
-    Witness,
-    /// The same, and to show how far it was read.
-    WitnessWithProgress,
+    CheckWithProgress(Report),
     /// To judge it and draw it.
     Picture,
     /// To print how the program is used.
@@ -52,8 +49,8 @@ fn request_of_one(word: &str) -> Result<Request, RequestError>
     ensures { RequestsIn (word.now ∷ []) result }
 {
     match word {
-        "--witness" => Ok(Request::Witness),
-        "--progress" => Ok(Request::CheckWithProgress),
+        "--witness" => Ok(Request::Check(Report::Witness)),
+        "--progress" => Ok(Request::CheckWithProgress(Report::Verdict)),
         "svg" => Ok(Request::Picture),
         "--help" => Ok(Request::Help),
         "--version" => Ok(Request::Version),
@@ -66,8 +63,8 @@ fn request_of_two(first: &str, second: &str) -> Result<Request, RequestError>
     ensures { RequestsIn (first.now ∷ second.now ∷ []) result }
 {
     match (first, second) {
-        ("--witness", "--progress") => Ok(Request::WitnessWithProgress),
-        ("--progress", "--witness") => Ok(Request::WitnessWithProgress),
+        ("--witness", "--progress") => Ok(Request::CheckWithProgress(Report::Witness)),
+        ("--progress", "--witness") => Ok(Request::CheckWithProgress(Report::Witness)),
         _ => Err(RequestError::BadArgument),
     }
 }
@@ -80,7 +77,7 @@ fn request_in(words: Args) -> Result<Request, RequestError>
     // The program's name requests nothing.
     let _program = words.next();
     let Some(first) = words.next() else {
-        return Ok(Request::Check);
+        return Ok(Request::Check(Report::Verdict));
     };
     let Some(second) = words.next() else {
         return request_of_one(first.as_str());
