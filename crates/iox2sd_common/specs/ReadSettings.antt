@@ -90,9 +90,9 @@ pub record ReadsEventAs (s : EventSettings) (made : Event) : Type 0 where
   pub event_id_max_value : made.event_id_max_value ≡ s.event_id_max_value
   pub deadline : ReadsDeadline s.deadline (Ok made.deadline)
   pub notifier_created_event :
-    made.notifier_created_event ≡ given_event_id s.notifier_created_event
+      made.notifier_created_event ≡ given_event_id s.notifier_created_event
   pub notifier_dropped_event :
-    made.notifier_dropped_event ≡ given_event_id s.notifier_dropped_event
+      made.notifier_dropped_event ≡ given_event_id s.notifier_dropped_event
   pub notifier_dead_event : made.notifier_dead_event ≡ given_event_id s.notifier_dead_event
 
 -- the settings of an event service

@@ -72,9 +72,10 @@ files_toml : (Gives : List ℕ → Result (List ℕ) FileError → Type 0) (inpu
     (files : List (List ℕ)) (old new : Seen) → AreToml old.valid
     → AddsFiles Gives input files old new → AreToml new.valid
 files_toml Gives input [] old new before is = rw is before
-files_toml Gives input (file ∷ files) old new before (next, (given, gives, (seen, here, is)), more) =
+files_toml Gives input (file ∷ files) old new before (next, (given, gives, added), more) =
     files_toml Gives input files next new
-    (rw is (All-append HasToml old.valid seen.valid before (seen_toml file given seen here))) more
+    (rw added.2 (All-append HasToml old.valid added.0.valid before
+    (seen_toml file given added.0 added.1))) more
 
 pub found_toml : (Gives : List ℕ → Result (List ℕ) FileError → Type 0) (input : List ℕ)
     (files : List (List ℕ)) (seen : Seen) → AreFound Gives input files seen → AreToml seen.valid

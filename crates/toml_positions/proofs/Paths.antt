@@ -32,7 +32,8 @@ pub agree_next : (xs : List (String Global)) (ls : List (List ℕ)) (i : ℕ) (x
     && agree (keys_view (drop (i + 1) xs)) (drop (i + 1) ls))
 agree_next [] ls i x one is other = absurd (omega arith)
 agree_next (y ∷ ys) [] i x one is other = absurd (omega arith)
-agree_next (y ∷ ys) (l ∷ ls) zero x one is other = ap (λ s. bytes_eq (string_bytes s) l && agree (keys_view ys) ls) (sym is)
+agree_next (y ∷ ys) (l ∷ ls) zero x one is other =
+    ap (λ s. bytes_eq (string_bytes s) l && agree (keys_view ys) ls) (sym is)
 agree_next (y ∷ ys) (l ∷ ls) (suc i) x one is other =
     let below = agree_next ys ls i x (omega arith) is (omega arith) in grind (arith, add-one)
 

@@ -75,6 +75,7 @@ expressions-preserved c =
             subst (λ t. lines (m - 1) line.next t ≡ Some final) (sym after_is) line.rest,
             one_more text m h (keys_view c.in_ok-header.header.items) left c.in-Some.after.now
                 line.after line.e _ (map written_view l.all.items) _ _ line.some line.read
-                (same_written _ _ _ _ _ _ (ap (λ t. length text - length t) from_is) path_is pair_is) next_is after_is added known,
+                (same_written _ _ _ _ _ _ (ap (λ t. length text - length t) from_is) path_is
+                pair_is) next_is after_is added known,
           ),
     )

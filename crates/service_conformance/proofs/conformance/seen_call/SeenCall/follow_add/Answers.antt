@@ -3,7 +3,8 @@ use Rattle.service_conformance.proofs.Calls.{all_given, many_given, none_given}
 use Rattle.service_conformance.proofs.conformance.seen_call.SeenCall.follow_add.Goals as goal
 
 pub loop-slot-init : goal.loop-slot-init
-loop-slot-init c = none_given c.args.self.now c.args.state.now c.args.part _ c.new-found.ensures.items
+loop-slot-init c =
+    none_given c.args.self.now c.args.state.now c.args.part _ c.new-found.ensures.items
 
 pub returns-then-len-gt-MAX_CONFIGS : goal.returns-then-len-gt-MAX_CONFIGS
 returns-then-len-gt-MAX_CONFIGS c =
