@@ -47,6 +47,6 @@ AnswersQuery form refuse Rest Says (object ∷ others) answer =
     AnswersQueryOf form refuse Rest Says (held object) answer
 
 -- the answer to a question that has nothing beside it, or why there is none
-abbrev pub Asks : {M R : Type 0} → (Result M Status → R) → (Held → Result M Status → Type 0)
+abbrev pub Answers : {M R : Type 0} → (Result M Status → R) → (Held → Result M Status → Type 0)
     → List Service → R → Type 0
-Asks form Says objects answer = AnswersQuery form Err (Unit {0}) Says objects answer
+Answers form Says objects answer = AnswersQuery form Err (Unit {0}) Says objects answer

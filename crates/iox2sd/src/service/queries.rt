@@ -8,7 +8,7 @@
 ghost use Rattle.std.specs.Prelude.{◌≡◌, All, length};
 ghost use Rattle.iox2_config.specs.Hashing.{pattern_number};
 ghost use Rattle.iox2sd.specs.Answers.{id_answer, number_answer, port_answer, roles_answer};
-ghost use Rattle.iox2sd.specs.Objects.{IsSoundObject, Asks};
+ghost use Rattle.iox2sd.specs.Objects.{IsSoundObject, Answers};
 ghost use Rattle.iox2sd.specs.Queries.{Gives, RoleAnswer, roles_in, PortsAnswer, RoomAnswer};
 ghost use Rattle.iox2sd.specs.Queries.{NodeRoomAnswer, FindsNode, FindsPort};
 ghost use Rattle.iox2sd_common.specs.Answers.{flag_answer, c_count};
@@ -53,7 +53,7 @@ fn port_roles(service: &DynamicConfig) -> Roles
 #[unsafe(no_mangle)]
 pub extern "C" fn iox2sd_messaging_pattern_at(objects: &mut [Service]) -> NumberAnswer
     requires { All IsSoundObject objects.old }
-    ensures answer { Asks number_answer (Gives (λ s. pattern_number s.pattern)) objects.old result }
+    ensures answer { Answers number_answer (Gives (λ s. pattern_number s.pattern)) objects.old result }
     ensures unchanged { objects.new ≡ objects.old }
 {
     answer!(objects, NumberAnswer, service => Ok(service.kind() as u64))
@@ -63,7 +63,7 @@ pub extern "C" fn iox2sd_messaging_pattern_at(objects: &mut [Service]) -> Number
 #[unsafe(no_mangle)]
 pub extern "C" fn iox2sd_port_roles_at(objects: &mut [Service]) -> RolesAnswer
     requires { All IsSoundObject objects.old }
-    ensures answer { Asks roles_answer (Gives roles_in) objects.old result }
+    ensures answer { Answers roles_answer (Gives roles_in) objects.old result }
     ensures unchanged { objects.new ≡ objects.old }
 {
     answer!(objects, RolesAnswer, service => Ok(port_roles(service)))
@@ -73,7 +73,7 @@ pub extern "C" fn iox2sd_port_roles_at(objects: &mut [Service]) -> RolesAnswer
 #[unsafe(no_mangle)]
 pub extern "C" fn iox2sd_service_number_at(objects: &mut [Service]) -> NumberAnswer
     requires { All IsSoundObject objects.old }
-    ensures answer { Asks number_answer (Gives (λ s. s.nodes.registry.service)) objects.old result }
+    ensures answer { Answers number_answer (Gives (λ s. s.nodes.registry.service)) objects.old result }
     ensures unchanged { objects.new ≡ objects.old }
 {
     answer!(objects, NumberAnswer, service => Ok(service.service_number()))
@@ -83,7 +83,7 @@ pub extern "C" fn iox2sd_service_number_at(objects: &mut [Service]) -> NumberAns
 #[unsafe(no_mangle)]
 pub extern "C" fn iox2sd_is_locked_at(objects: &mut [Service]) -> FlagAnswer
     requires { All IsSoundObject objects.old }
-    ensures answer { Asks flag_answer (Gives (λ s. s.nodes.registry.locked)) objects.old result }
+    ensures answer { Answers flag_answer (Gives (λ s. s.nodes.registry.locked)) objects.old result }
     ensures unchanged { objects.new ≡ objects.old }
 {
     answer!(objects, FlagAnswer, service => Ok(service.is_locked()))
@@ -93,7 +93,7 @@ pub extern "C" fn iox2sd_is_locked_at(objects: &mut [Service]) -> FlagAnswer
 #[unsafe(no_mangle)]
 pub extern "C" fn iox2sd_has_role_at(objects: &mut [Service], role: u64) -> FlagAnswer
     requires { All IsSoundObject objects.old }
-    ensures answer { Asks flag_answer (RoleAnswer role) objects.old result }
+    ensures answer { Answers flag_answer (RoleAnswer role) objects.old result }
     ensures unchanged { objects.new ≡ objects.old }
 {
     answer!(objects, FlagAnswer, service => has_role(service, role))
@@ -137,7 +137,7 @@ fn has_room_for_node(service: &DynamicConfig) -> Result<bool, Status>
 #[unsafe(no_mangle)]
 pub extern "C" fn iox2sd_number_of_nodes_at(objects: &mut [Service]) -> CountAnswer
     requires { All IsSoundObject objects.old }
-    ensures answer { Asks c_count (Gives (λ s. length s.nodes.registry.entries))
+    ensures answer { Answers c_count (Gives (λ s. length s.nodes.registry.entries))
         objects.old result }
     ensures unchanged { objects.new ≡ objects.old }
 {
@@ -148,7 +148,7 @@ pub extern "C" fn iox2sd_number_of_nodes_at(objects: &mut [Service]) -> CountAns
 #[unsafe(no_mangle)]
 pub extern "C" fn iox2sd_max_nodes_at(objects: &mut [Service]) -> CountAnswer
     requires { All IsSoundObject objects.old }
-    ensures answer { Asks c_count (Gives (λ s. s.nodes.registry.capacity)) objects.old result }
+    ensures answer { Answers c_count (Gives (λ s. s.nodes.registry.capacity)) objects.old result }
     ensures unchanged { objects.new ≡ objects.old }
 {
     answer!(objects, CountAnswer, service => Ok(service.max_nodes()))
@@ -158,7 +158,7 @@ pub extern "C" fn iox2sd_max_nodes_at(objects: &mut [Service]) -> CountAnswer
 #[unsafe(no_mangle)]
 pub extern "C" fn iox2sd_has_room_for_node_at(objects: &mut [Service]) -> FlagAnswer
     requires { All IsSoundObject objects.old }
-    ensures answer { Asks flag_answer NodeRoomAnswer objects.old result }
+    ensures answer { Answers flag_answer NodeRoomAnswer objects.old result }
     ensures unchanged { objects.new ≡ objects.old }
 {
     answer!(objects, FlagAnswer, service => has_room_for_node(service))
@@ -169,7 +169,7 @@ pub extern "C" fn iox2sd_has_room_for_node_at(objects: &mut [Service]) -> FlagAn
 #[unsafe(no_mangle)]
 pub extern "C" fn iox2sd_count_ports_at(objects: &mut [Service], role: u64) -> CountAnswer
     requires { All IsSoundObject objects.old }
-    ensures answer { Asks c_count (PortsAnswer (λ r n. n ≡ length r.entries)
+    ensures answer { Answers c_count (PortsAnswer (λ r n. n ≡ length r.entries)
         role)
         objects.old result }
     ensures unchanged { objects.new ≡ objects.old }
@@ -181,7 +181,7 @@ pub extern "C" fn iox2sd_count_ports_at(objects: &mut [Service], role: u64) -> C
 #[unsafe(no_mangle)]
 pub extern "C" fn iox2sd_max_ports_at(objects: &mut [Service], role: u64) -> CountAnswer
     requires { All IsSoundObject objects.old }
-    ensures answer { Asks c_count (PortsAnswer (λ r n. n ≡ r.capacity) role) objects.old result }
+    ensures answer { Answers c_count (PortsAnswer (λ r n. n ≡ r.capacity) role) objects.old result }
     ensures unchanged { objects.new ≡ objects.old }
 {
     answer!(objects, CountAnswer, service => max_ports(service, role))
@@ -192,7 +192,7 @@ pub extern "C" fn iox2sd_max_ports_at(objects: &mut [Service], role: u64) -> Cou
 #[unsafe(no_mangle)]
 pub extern "C" fn iox2sd_has_room_at(objects: &mut [Service], role: u64) -> FlagAnswer
     requires { All IsSoundObject objects.old }
-    ensures answer { Asks flag_answer (RoomAnswer role) objects.old result }
+    ensures answer { Answers flag_answer (RoomAnswer role) objects.old result }
     ensures unchanged { objects.new ≡ objects.old }
 {
     answer!(objects, FlagAnswer, service => has_room(service, role))
@@ -221,7 +221,7 @@ fn find_port(service: &DynamicConfig, handle: Handle) -> Result<Port, Status>
 #[unsafe(no_mangle)]
 pub extern "C" fn iox2sd_node_at(objects: &mut [Service], handle: Handle) -> IdAnswer
     requires { All IsSoundObject objects.old }
-    ensures answer { Asks id_answer (FindsNode handle) objects.old result }
+    ensures answer { Answers id_answer (FindsNode handle) objects.old result }
     ensures unchanged { objects.new ≡ objects.old }
 {
     answer!(objects, IdAnswer, service => find_node(service, handle))
@@ -232,7 +232,7 @@ pub extern "C" fn iox2sd_node_at(objects: &mut [Service], handle: Handle) -> IdA
 #[unsafe(no_mangle)]
 pub extern "C" fn iox2sd_port_at(objects: &mut [Service], handle: Handle) -> PortAnswer
     requires { All IsSoundObject objects.old }
-    ensures answer { Asks port_answer (FindsPort handle) objects.old result }
+    ensures answer { Answers port_answer (FindsPort handle) objects.old result }
     ensures unchanged { objects.new ≡ objects.old }
 {
     answer!(objects, PortAnswer, service => find_port(service, handle))
