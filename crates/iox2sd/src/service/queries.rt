@@ -53,7 +53,8 @@ fn port_roles(service: &DynamicConfig) -> Roles
 #[unsafe(no_mangle)]
 pub extern "C" fn iox2sd_messaging_pattern_at(objects: &mut [Service]) -> NumberAnswer
     requires { All IsSoundObject objects.old }
-    ensures answer { Answers number_answer (Gives (λ s. pattern_number s.pattern)) objects.old result }
+    ensures answer { Answers number_answer (Gives (λ s. pattern_number s.pattern))
+        objects.old result }
     ensures unchanged { objects.new ≡ objects.old }
 {
     answer!(objects, NumberAnswer, service => Ok(service.kind() as u64))
@@ -73,7 +74,8 @@ pub extern "C" fn iox2sd_port_roles_at(objects: &mut [Service]) -> RolesAnswer
 #[unsafe(no_mangle)]
 pub extern "C" fn iox2sd_service_number_at(objects: &mut [Service]) -> NumberAnswer
     requires { All IsSoundObject objects.old }
-    ensures answer { Answers number_answer (Gives (λ s. s.nodes.registry.service)) objects.old result }
+    ensures answer { Answers number_answer (Gives (λ s. s.nodes.registry.service))
+        objects.old result }
     ensures unchanged { objects.new ≡ objects.old }
 {
     answer!(objects, NumberAnswer, service => Ok(service.service_number()))
