@@ -72,11 +72,6 @@ abbrev pub ChecksPart : List Part → ℕ → Type 0
 ChecksPart parts answer =
     OfGiven (code status.Null) (λ part. Returns end_code (ReadsPart part)) parts answer
 
--- the type of this part, or what is wrong with it
-abbrev pub ReadsAs : Which → Part → Result TypeDetailParts Fault → Type 0
-ReadsAs which part (Ok made) = ReadsPart part (Ok made)
-ReadsAs which part (Err fault) = (fault.part ≡ which) × ReadsPart part (Err fault.status)
-
 -- the parts before the one that is wrong are types
 abbrev pub FailsIn : Details → Which → Status → Type 0
 FailsIn d which.Header cause = ReadsPart d.header (Err cause)

@@ -224,18 +224,19 @@ fn described(
     hash: &ServiceHash,
     pattern: &MessagingPattern,
     id: Id,
-) -> ServiceDescription
-    ensures { result ≡ c_description (record {
+) -> Result<ServiceDescription, FieldAnswer>
+    ensures { result ≡ Ok (c_description (record {
       name = name.now;
       id = number_of id;
       hash = hash.now;
       attributes = [];
       pattern = pattern.now;
-    }) id }
+    }) id) }
 {
     let name = name.as_str().as_bytes();
     let hash = hash.as_str().as_bytes();
-    ServiceDescription {
+    // Made here as a `Result`: to wrap it later would take as much of the stack again.
+    Ok(ServiceDescription {
         name: zero_padded(name),
         name_length: name.len(),
         id,
@@ -246,7 +247,7 @@ fn described(
         event: event_config(pattern),
         request_response: request_response_config(pattern),
         blackboard: blackboard_config(pattern),
-    }
+    })
 }
 
 /// The description of a service with this name and this pattern, each of which may be refused.
@@ -263,7 +264,7 @@ fn describe(
     };
     match pattern {
         Ok(pattern) => match hash_text(pattern.kind(), &name) {
-            Ok(hash) => Ok(described(&name, &hash, pattern, id)),
+            Ok(hash) => described(&name, &hash, pattern, id),
             Err(status) => Err(no_field(status)),
         },
         Err(field) => Err(field.answer()),

@@ -1,6 +1,6 @@
 //! What a caller says of the parts of a message.
 ghost use Rattle.iox2sd_values.specs.Messages.{ReadsVariant, ReadsPart, ReadsDetails, ShapesPart};
-ghost use Rattle.iox2sd_values.specs.Messages.{ReadsAs, ShapesDetails, ChecksPart};
+ghost use Rattle.iox2sd_values.specs.Messages.{ShapesDetails, ChecksPart};
 
 use iox2_config::types::{MessageTypeDetails, TypeDetail, TypeDetailError, TypeVariant};
 use iox2_texts::bounded::StringModificationError;
@@ -104,19 +104,24 @@ pub extern "C" fn iox2sd_type_detail_check_at(part: &[Part<'_>]) -> u32
     }
 }
 
-/// The type of this part of a message, or what is wrong with it.
-fn read_as(part: Which, details: &Part<'_>) -> Result<TypeDetail, Fault>
-    ensures { ReadsAs part details.now result }
-{
-    read_part(details).map_err(|status| Fault { part, status })
-}
-
 /// The types of all parts, or what is wrong with the first invalid part.
 pub(super) fn read_details(details: &Details<'_>) -> Result<MessageTypeDetails, Fault>
     ensures { ReadsDetails details.now result }
 {
-    let header = read_as(Which::Header, &details.header)?;
-    let user_header = read_as(Which::UserHeader, &details.user_header)?;
+    let header = match read_part(&details.header) {
+        Ok(header) => header,
+        Err(status) => {
+            let part = Which::Header;
+            return Err(Fault { part, status });
+        }
+    };
+    let user_header = match read_part(&details.user_header) {
+        Ok(user_header) => user_header,
+        Err(status) => {
+            let part = Which::UserHeader;
+            return Err(Fault { part, status });
+        }
+    };
     match read_part(&details.payload) {
         Ok(payload) => Ok(MessageTypeDetails {
             header,
