@@ -1,6 +1,6 @@
 use Rattle.std.proofs.Common.{◌≤◌, length, take}
 use Rattle.std.specs.Prelude.{All, Any}
-use Rattle.iox2_texts.proofs.attribute.requirement.first_missing.Given as goal
+use Rattle.iox2_texts.proofs.attribute.verifier.first_missing.Given as goal
 
 abbrev pub invariant-loop-i : goal.invariant-loop-i
 invariant-loop-i g l = record {

@@ -1,7 +1,7 @@
 -- The text is that of twenty bytes.
 use Rattle.std.proofs.Common.{rules}
 use Rattle.iox2_config.proofs.FileNames.{twenty_bytes}
-use Rattle.iox2_config.proofs.hash.sha1_hasher.text_of.Goals as goal
+use Rattle.iox2_config.proofs.hash.hasher.text_of.Goals as goal
 
 pub of_file_name-requires : goal.of_file_name-requires
 of_file_name-requires c =

@@ -2,7 +2,7 @@ use Rattle.std.proofs.Common.{arith, rules}
 use Rattle.std.specs.Prelude.{Any}
 use Rattle.std.proofs.lemmas.List.Elements.{All-more}
 use Rattle.iox2_texts.proofs.VerifyLemmas.{all_of_take}
-use Rattle.iox2_texts.proofs.attribute.requirement.first_missing.Goals as goal
+use Rattle.iox2_texts.proofs.attribute.verifier.first_missing.Goals as goal
 
 pub loop-i-preserved : goal.loop-i-preserved
 loop-i-preserved g c = record {
