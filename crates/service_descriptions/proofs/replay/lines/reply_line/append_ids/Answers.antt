@@ -1,6 +1,6 @@
 use Rattle.std.proofs.Common.{◌≡◌, arith, rules, length, take, vec_len}
 use Rattle.std.proofs.lemmas.Grind.{common_steps}
-use Rattle.service_descriptions.proofs.Appending.{front_stays}
+use Rattle.service_descriptions.proofs.ReplyLines.{front_stays}
 use Rattle.service_descriptions.proofs.replay.lines.reply_line.append_ids.Goals as goal
 
 pub loop-item-preserved : goal.loop-item-preserved

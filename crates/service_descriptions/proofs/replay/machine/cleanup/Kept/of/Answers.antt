@@ -1,5 +1,5 @@
 use Rattle.service_descriptions.proofs.Keeping.{rising_from_adjacent}
-use Rattle.service_descriptions.proofs.replay.machine.kept.Kept.of.Goals as goal
+use Rattle.service_descriptions.proofs.replay.machine.cleanup.Kept.of.Goals as goal
 
 pub invariant_of-result : goal.invariant_of-result
 invariant_of-result c =

@@ -1,33 +1,38 @@
--- Lines of lists, written by a callback as it is shown the items.
-use Rattle.std.proofs.Common.{◌≡◌, ℕ, ◌≤◌, Bool, true, false, Result, Ok, Err, List, [], ◌∷◌, ◌++◌, codes, length, map, take, refl, sym, ◌∙◌, ap, subst, inl, inr, arith, append_assoc, length-append}
+-- Lines of replies: what stays at the front of a list that grows, and lists that a callback writes
+-- as it is shown the items.
+use Rattle.std.proofs.Common.{◌≡◌, ◌<◌, ◌≤◌, ◌^◌, ℕ, List, arith, ◌++◌, length, take, drop, sym, ◌∙◌, ap, append_assoc, Bool, true, false, Result, Ok, Err, [], ◌∷◌, codes, map, refl, subst, inl, inr, length-append}
+use Rattle.std.proofs.Math.Seq.{take-append_seam}
+use Rattle.service_descriptions.proofs.Names.{take-append-drop, decimal, Vec, flat_map, append-nil, port_value, Role, ContainerState, container_as, entry_as, Entry, Visit, listed, PortDetails, port_of, side_of, LacksRole, Service, role_at, PutsText, PutsWord, WritesLine, Written, kind_text, ports_text, id_word, port_word}
+use Rattle.std.proofs.lemmas.Fmt.{length-decimal-le}
 use Rattle.std.specs.Prelude.{if◌then◌else◌, is_ok, OnOk, OnErr}
-use Rattle.service_descriptions.proofs.Names.{Vec, flat_map, append-nil, port_value, Role, ContainerState, container_as, entry_as, Entry, Visit, listed, PortDetails, port_of, side_of, LacksRole, Service, role_at, PutsText, PutsWord, WritesLine, Written, kind_text, ports_text, id_word, port_word}
+use Rattle.std.proofs.lemmas.Result.{on_err_weaker, on_ok_weaker}
 use Rattle.std.specs.declared.alloc.AllocError.{AllocError}
 use Rattle.iox2_texts.specs.Attribute.{Visits}
-use Rattle.iox2_texts.specs.declared.bounded.callback_progression.CallbackProgression.{CallbackProgression}
-use Rattle.iox2_texts.specs.declared.bounded.callback_progression.CallbackProgression.TheVariants.{Continue, Stop}
+use Rattle.iox2_texts.specs.declared.bounded.CallbackProgression.{CallbackProgression}
+use Rattle.iox2_texts.specs.declared.bounded.CallbackProgression.TheVariants.{Continue, Stop}
 use Rattle.service_descriptions.specs.declared.replay.machine.reply.LineAnswer.TheVariants as answer
 use Rattle.service_descriptions.specs.declared.replay.machine.reply.Reply.TheVariants as reply
-use Rattle.service_descriptions.proofs.Appending.{front_stays}
+
+-- where a longer front stays, a shorter one does
+pub front_stays : (a b front x : List ℕ) → front ≡ a ++ b → take (length front) x ≡ front
+    → take (length a) x ≡ a
+front_stays a b front x is e =
+    let rest = drop (length front) x in
+    let whole : x ≡ a ++ (b ++ rest) =
+    sym (take-append-drop (length front) x) ∙ ap (λ (l : List ℕ). l ++ rest) (e ∙ is)
+    ∙ append_assoc a b rest in
+    rw whole (take-append_seam a (b ++ rest))
+
+-- a number of 64 bits has at most 20 digits
+pub few_digits : (n : ℕ) → n < 2 ^ 64 → length (decimal n) ≤ 20
+few_digits n fits = length-decimal-le 20 n (omega arith) (omega arith) fits
 
 abbrev Refusal : Type 0
 Refusal = Result (Unit {0}) AllocError
 
-never_ok : (r : Refusal) (P : Type 0) → OnOk r ⊥ → OnOk r P
-never_ok (Ok done) P n = absurd n
-never_ok (Err why) P n = tt
-
 on_err : (r : Refusal) (P : Type 0) → P → OnErr r P
 on_err (Ok done) P p = tt
 on_err (Err why) P p = p
-
-ok_so : (r : Refusal) (P Q : Type 0) → (P → Q) → OnOk r P → OnOk r Q
-ok_so (Ok done) P Q so p = so p
-ok_so (Err why) P Q so p = tt
-
-err_so : (r : Refusal) (P Q : Type 0) → (P → Q) → OnErr r P → OnErr r Q
-err_so (Ok done) P Q so p = tt
-err_so (Err why) P Q so p = so p
 
 -- the words of all items, where each was appended in turn
 puts_all : {A : Type 0} (word : A → List ℕ) (before : Written) (items : List A) (after : Written)
@@ -40,16 +45,16 @@ puts_all word before [] after end ok = (
       (sym (ap (λ p. p.1) end ∙ ok)) tt,
 )
 puts_all word before (x ∷ xs) after (inl stopped) ok =
-    (never_ok after.1 _ stopped.1, on_err after.1 _ stopped.0)
+    (on_ok_weaker {P = ⊥} after.1 (λ e. absurd e) stopped.1, on_err after.1 _ stopped.0)
 puts_all word before (x ∷ xs) after (inr goes) ok =
     let mid = goes.0 in
     let is : mid.0 ≡ before.0 ++ word x = goes.1.0 in
     let rest = puts_all word mid xs after goes.2 (goes.1.1 ∙ ok) in (
-      ok_so after.1 (after.0 ≡ mid.0 ++ flat_map word xs) _
+      on_ok_weaker {P = after.0 ≡ mid.0 ++ flat_map word xs} after.1
           (λ e. e ∙ ap (λ (l : List ℕ). l ++ flat_map word xs) is
           ∙ append_assoc before.0 (word x) (flat_map word xs))
           rest.0,
-      err_so after.1 (take (length mid.0) after.0 ≡ mid.0) _
+      on_err_weaker {P = take (length mid.0) after.0 ≡ mid.0} after.1
           (λ e. front_stays before.0 (word x) mid.0 after.0 is e) rest.1,
     )
 
@@ -105,50 +110,41 @@ words_longer id (x ∷ xs) =
     let len = length-append (id_word (id x)) (flat_map (λ x. id_word (id x)) xs) in
     omega (arith, rest, len)
 
--- a list of these items, no more of them than bytes were written
-abbrev list_of : {A : Type 0} (out : Vec ℕ) (items : List A) → length items ≤ length out.items
-    → Vec A
-list_of out items fits =
-    record {
-      ptr = out.ptr;
-      len = length items;
-      cap = length items;
-      alloc = out.alloc;
-      items = items;
-      ok = (refl, omega arith);
-      small = omega (arith, fits, out.ok.0, out.ok.1, out.small);
-    }
-
--- a word for a list, the words of its items and a newline are a line
-whole : (before mid text words line : List ℕ) → mid ≡ before ++ codes "list" → text ≡ mid ++ words
-    → line ≡ text ++ 10 ∷ [] → line ≡ before ++ ((codes "list" ++ words) ++ 10 ∷ [])
-whole before mid text words line begins is ends =
-    ends
-    ∙ ap (λ (l : List ℕ). l ++ 10 ∷ [])
-    (is ∙ ap (λ (l : List ℕ). l ++ words) begins ∙ append_assoc before (codes "list") words)
-    ∙ append_assoc before (codes "list" ++ words) (10 ∷ [])
-
--- no more items than bytes
-fits_in : (before words line : List ℕ) (n : ℕ) → line ≡ before ++ ((codes "list" ++ words)
-    ++ 10 ∷ [])
-    → n ≤ length words → n ≤ length line
-fits_in before words line n is fits =
-    let all = ap (length {A = ℕ}) is ∙ length-append before ((codes "list" ++ words) ++ 10 ∷ []) in
-    let most = length-append (codes "list" ++ words) (10 ∷ []) in
-    let some = length-append (codes "list") words in
-    omega (arith, all, most, some, fits)
+-- a word for a list, the words of its items and a newline are the line of a list of these items,
+-- no more of them than bytes were written
+list_line : {A : Type 0} (id : A → ℕ) (items : List A) (before mid text : List ℕ) (out : Vec ℕ)
+    → mid ≡ before ++ codes "list" → text ≡ mid ++ flat_map (λ x. id_word (id x)) items
+    → out.items ≡ text ++ 10 ∷ [] → (list : Vec A) × (list.items ≡ items) × (out.items
+    ≡ before ++ ((codes "list" ++ flat_map (λ x. id_word (id x)) list.items) ++ 10 ∷ []))
+list_line id items before mid text out begins is ends =
+    let words = flat_map (λ x. id_word (id x)) items in
+    let some = words_longer id items in
+    let size = ap (length {A = ℕ}) ends ∙ length-append text (10 ∷ []) in
+    let part = ap (length {A = ℕ}) is ∙ length-append mid words in
+    let fits : length items ≤ length out.items = omega (arith, some, size, part) in
+    let line : text ++ 10 ∷ [] ≡ before ++ ((codes "list" ++ words) ++ 10 ∷ []) =
+    rw (is, begins) (simp append_assoc) in (
+      record {
+        ptr = out.ptr;
+        len = length items;
+        cap = length items;
+        alloc = out.alloc;
+        items = items;
+        ok = (refl, omega arith);
+        small = omega (arith, fits, out.ok.0, out.ok.1, out.small);
+      },
+      refl,
+      ends ∙ line,
+    )
 
 -- the line of the nodes
 pub nodes_line : (s : Service) (before mid text : List ℕ) (out : Vec ℕ)
     → mid ≡ before ++ codes "list" → text ≡ mid ++ flat_map id_word (listed s.nodes.registry)
     → out.items ≡ text ++ 10 ∷ [] → WritesLine s answer.Nodes before out.items
 nodes_line s before mid text out begins is ends =
-    let ids = listed s.nodes.registry in
-    let line = whole before mid text (flat_map id_word ids) out.items begins is ends in
-    let fits =
-    fits_in before (flat_map id_word ids) out.items (length ids) line
-    (words_longer (λ id. id) ids) in
-    (reply.Nodes (list_of out ids fits), refl, line)
+    let (list, same, line) =
+    list_line (λ id. id) (listed s.nodes.registry) before mid text out begins is ends in
+    (reply.Nodes list, same, line)
 
 -- the line of the ports of a role
 pub ports_line : (s : Service) (role : Role) (is_first : Bool)
@@ -157,19 +153,15 @@ pub ports_line : (s : Service) (role : Role) (is_first : Bool)
     → text ≡ mid ++ kind_text is_first s.ports → out.items ≡ text ++ 10 ∷ []
     → WritesLine s (answer.Ports role) before out.items
 ports_line s role true of before mid text out begins is ends =
-    let ports = listed s.ports.first.registry in
-    let line = whole before mid text (flat_map port_word ports) out.items begins is ends in
-    let fits =
-    fits_in before (flat_map port_word ports) out.items (length ports) line
-    (words_longer (λ d. port_value (port_of d)) ports) in
-    (reply.Ports (list_of out ports fits), inl (of, refl), line)
+    let (list, same, line) =
+    list_line (λ d. port_value (port_of d)) (listed s.ports.first.registry) before mid text out
+    begins is ends in
+    (reply.Ports list, inl (of, same), line)
 ports_line s role false of before mid text out begins is ends =
-    let ports = listed s.ports.second.registry in
-    let line = whole before mid text (flat_map port_word ports) out.items begins is ends in
-    let fits =
-    fits_in before (flat_map port_word ports) out.items (length ports) line
-    (words_longer (λ d. port_value (port_of d)) ports) in
-    (reply.Ports (list_of out ports fits), inr (of, refl), line)
+    let (list, same, line) =
+    list_line (λ d. port_value (port_of d)) (listed s.ports.second.registry) before mid text out
+    begins is ends in
+    (reply.Ports list, inr (of, same), line)
 
 -- the line that says that the pattern lacks the role
 pub lacks_line : (s : Service) (role : Role) (before line : List ℕ) (r : Refusal)

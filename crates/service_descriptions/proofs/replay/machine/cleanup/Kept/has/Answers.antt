@@ -1,6 +1,6 @@
 use Rattle.std.proofs.Common.{sym, ◌∙◌}
 use Rattle.service_descriptions.proofs.Keeping.{found_is}
-use Rattle.service_descriptions.proofs.replay.machine.kept.Kept.has.Goals as goal
+use Rattle.service_descriptions.proofs.replay.machine.cleanup.Kept.has.Goals as goal
 
 pub returns-then-self : goal.returns-then-self
 returns-then-self c =
