@@ -169,7 +169,7 @@ impl MessageTypeDetails {
 }
 
 /// As `align` to a power of two, or `None` where the multiple does not fit.
-#[tactic(auto, using(crate::proofs::Rounding::power_positive))]
+#[tactic(auto, using(crate::proofs::Rounding::power_positive, crate::proofs::Rounding::rounded, crate::proofs::Rounding::not_rounded))]
 fn checked_align(value: usize, alignment: usize) -> Option<usize>
     requires { IsTrue (is_power_of_two alignment) }
     ensures some { IfSome result (λ y. y ≡ least_multiple value alignment) }
