@@ -3,6 +3,7 @@
 use Rattle.std.proofs.Common.{◌≡◌, ℕ, ◌<◌, ◌≤◌, Bool, true, false, Option, Some, None, Result, Ok, Err, List, inl, inr, arith, refl, sym, ◌∙◌, ap, subst, [], ◌∷◌, ◌++◌}
 use Rattle.std.specs.Prelude.{IfSome, MatchResult, ok_or}
 use Rattle.iox2_texts.specs.Verify.{Requirements}
+use Rattle.service_descriptions.specs.Descriptions.{details_in}
 use Rattle.service_descriptions.proofs.Names.{PatternKind, ContainerAddFailure, Default, LockIfLastIndex, ReleaseState, Role, Handle, ContainerState, RegistryState, AddStep, is_of, DeregisterNodeState, PortDetails, node_of, has_ports_of, Side, of_side, other_side, First, Second, Service, IsService, AddsPort, RemovesPort, NodesAfter, Description, Cleanup, Command, Reply, CleanedUp, ServesDead, ServesVerify, ServesMessages, ServesLayout, ServesPlaces, ServesCompatible, named, tickets_of, ServesNodes, ServesList, ServesCount, ServesRegister, ServesDeregister, ServesAdd, ServesRelease, Serves, handle_in, map-append, All-push, All-weaker, Vec, DeregisterStep, reply_of_owners, Differ, IsGiven, KeepsHandles, handle_at, handles_in, IsSound, described, session_of, LineStep, ServesLine, StandsFor, handle_given, reply_of, IsState, ServiceStep, State}
 use Rattle.iox2_config.specs.declared.hash.input.PatternKind.TheVariants as kind
 use Rattle.iox2_config.specs.declared.types.message_details.MessageTypeDetails.{MessageTypeDetails}
@@ -214,20 +215,14 @@ replies_only : (old new : Service) (Reported : Reply → Type 0) (r : Reply)
 replies_only old new Reported (reply.Handle h) never s = absurd (never h s.0)
 replies_only old new Reported _ never s = still old new s.1
 
-no_handle_of_part : (answered : MessageTypeDetails → Reply → Type 0) (h : Handle)
-    (found : Option MessageTypeDetails)
-    → ((d : MessageTypeDetails) → answered d (reply.Handle h) → ⊥)
-    → MatchResult (ok_or found reply.WrongPattern) (λ d. answered d (reply.Handle h))
-    (λ why. reply.Handle h ≡ why) → ⊥
-no_handle_of_part answered h None never s = (cc)
-no_handle_of_part answered h (Some d) never s = never d s
-
 no_handle : (answered : MessageTypeDetails → Reply → Type 0) (about : Option Description)
     (part : MessagePart) → ((d : MessageTypeDetails) (h : Handle) → answered d (reply.Handle h) → ⊥)
     → (h : Handle) → ServesMessages answered about part (reply.Handle h) → ⊥
 no_handle answered None part never h s = (cc)
 no_handle answered (Some description) part never h s =
-    no_handle_of_part answered h _ (λ d. never d h) s
+    elim (details_in description.pattern part) as (λ found. MatchResult
+    (ok_or found reply.WrongPattern) (λ d. answered d (reply.Handle h))
+    (λ why. reply.Handle h ≡ why) → ⊥) [ None ↦ λ e. cc | Some d ↦ λ e. never d h e ] s
 
 no_verdict : (required : Requirements) (about : Option Description) (h : Handle)
     → ServesVerify required about (reply.Handle h) → ⊥
