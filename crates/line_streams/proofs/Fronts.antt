@@ -8,6 +8,7 @@ use Rattle.std.proofs.lemmas.Str.{digit_value_digit}
 use Rattle.std.proofs.lemmas.Int.Digits.{digits_more, digits_value_more}
 use Rattle.std.proofs.lemmas.Bool.{cases_lt}
 use Rattle.std.proofs.lemmas.List.{drop-drop, length-append, length-take-le, take-append-drop, take-append-le, get_or-take, length-drop, get_or-drop, get_or_past}
+use Rattle.std.proofs.Math.ListN.{get_or-append}
 use Rattle.line_streams.specs.Spelling.{EndsNumber, IsDigit}
 use Rattle.line_streams.specs.Numerals.{own, decimal_first, decimal_no_zero}
 
@@ -48,15 +49,10 @@ pub zero_found : (b most : ℕ) (rest bytes : List ℕ) → bytes ≡ b ∷ rest
 zero_found b most rest bytes e naught ends =
     ((omega arith, omega arith, ends), rw (decimal_digit 0 (omega arith)) (rw naught at e))
 
-starts : (ds rest : List ℕ) → 0 < length ds → IsDigit (get_or ds 0 0)
-    → IsDigit (get_or (ds ++ rest) 0 0)
-starts [] rest some digit = absurd (omega arith)
-starts (d ∷ ds) rest some digit = digit
-
 pub starts_with_digit : (n : ℕ) (rest bytes : List ℕ) → n < 2 ^ 64 → bytes ≡ decimal n ++ rest
     → IsDigit (get_or bytes 0 0)
 starts_with_digit n rest bytes h e =
-    rw e (starts (decimal n) rest (decimal_nonempty n h) (decimal_first n h))
+    rw (e, get_or-append (decimal n) rest 0 0 (decimal_nonempty n h)) (decimal_first n h)
 
 -- one more digit
 pub digit_more : (bytes : List ℕ) (i value : ℕ) → i < length bytes → AllDigits 10 (take i bytes)
