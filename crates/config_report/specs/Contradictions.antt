@@ -4,9 +4,9 @@ use Rattle.std.specs.Str.{bytes_eq}
 use Rattle.iox2_config.specs.GlobalSettings.{GlobalSettings}
 use Rattle.iox2_config.specs.declared.config.Config.{Config}
 use Rattle.iox2_config.specs.declared.config.defaults.Defaults.{Defaults}
-use Rattle.iox2_config.specs.declared.config.event.Event.{Event}
-use Rattle.iox2_config.specs.declared.config.publish_subscribe.PublishSubscribe.{PublishSubscribe}
-use Rattle.iox2_config.specs.declared.config.service.Service.{Service}
+use Rattle.iox2_config.specs.declared.config.defaults.Event.{Event}
+use Rattle.iox2_config.specs.declared.config.defaults.PublishSubscribe.{PublishSubscribe}
+use Rattle.iox2_config.specs.declared.config.global.Service.{Service}
 use Rattle.iox2_config_file.specs.Settings.{prefix_of, table_path}
 use Rattle.iox2_config_file.specs.Values.{SettingValue, number, text}
 use Rattle.iox2_config_file.specs.Write.{value_text, value_view}

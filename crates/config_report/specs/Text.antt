@@ -13,8 +13,8 @@ use Rattle.iox2_static.specs.PublishSubscribe.{publish_subscribe_of, sample_limi
 use Rattle.iox2_static.specs.RequestResponse.{request_response_of, client_limits, server_limits}
 use Rattle.std.specs.Fmt.{decimal, padded, format_spec}
 use Rattle.iox2_config.specs.Defaults.{IsDefaultConfig}
-use Rattle.iox2_config.specs.declared.config.node.Node.{Node}
-use Rattle.iox2_config.specs.declared.config.service.Service.{Service}
+use Rattle.iox2_config.specs.declared.config.global.Node.{Node}
+use Rattle.iox2_config.specs.declared.config.global.Service.{Service}
 use Rattle.iox2_config_file.specs.Read.{sections}
 use Rattle.iox2_config_file.specs.Write.{value_text, value_view}
 use Rattle.iox2_static.specs.Chunks.{ReportsGreatest}

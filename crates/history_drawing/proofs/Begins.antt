@@ -17,7 +17,7 @@ use Rattle.log_lines.specs.Laws.{IsAlike}
 use Rattle.log_lines.specs.Lines.{IsLine, Line, line_text}
 use Rattle.log_lines.specs.Lines.Line.{service, call, reply, begin}
 use Rattle.log_lines.proofs.OneReading.{one_way}
-use Rattle.service_descriptions.specs.declared.replay.lines.service_line.ServiceLine.{ServiceLine}
+use Rattle.service_descriptions.specs.declared.replay.lines.line.ServiceLine.{ServiceLine}
 use Rattle.history_drawing.specs.declared.calls.LogCall.{LogCall}
 use Rattle.history_drawing.specs.declared.timeline.BarEnd.TheVariants.{Answered, Crashed, Open}
 use Rattle.history_drawing.specs.declared.timeline.BarEnd.{BarEnd}

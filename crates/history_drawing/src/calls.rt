@@ -6,7 +6,7 @@ ghost use Rattle.log_lines.specs.Lines.{line_seen};
 ghost use Rattle.log_lines.specs.Lines.Line.{begin, call, reply, service};
 ghost use Rattle.history_drawing.specs.Calls.{BeginsIn, EndsFrom, EndsIn, IsAlone, IsBehind, IsFirstService};
 ghost use Rattle.history_drawing.specs.Calls.{Says, text_above, text_at};
-ghost use Rattle.service_descriptions.specs.declared.replay.lines.service_line.ServiceLine.{ServiceLine};
+ghost use Rattle.service_descriptions.specs.declared.replay.lines.line.ServiceLine.{ServiceLine};
 ghost use Rattle.history_drawing.specs.declared.calls.LogCall.{LogCall};
 ghost use Rattle.history_drawing.specs.declared.timeline.BarEnd.{BarEnd};
 ghost use Rattle.history_drawing.specs.Drawings.{AreLines};

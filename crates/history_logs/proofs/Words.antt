@@ -51,7 +51,7 @@ pub use Rattle.service_conformance.specs.declared.conformance.calls.Calls.{Calls
 pub use Rattle.service_conformance.specs.declared.conformance.possible.Part.{Part}
 pub use Rattle.service_conformance.specs.declared.conformance.seen_reply.SeenReply.{SeenReply}
 pub use Rattle.service_descriptions.specs.Replies.{id_word}
-pub use Rattle.service_descriptions.specs.declared.replay.lines.service_line.ServiceLine.{ServiceLine}
+pub use Rattle.service_descriptions.specs.declared.replay.lines.line.ServiceLine.{ServiceLine}
 pub use Rattle.std.proofs.Common.{All, AllPairs, Bool, Contains, Err, IfNone, IfOk, IfSome, IsTrue, List, None, Ok, Option, Result, Some, [], add-one, ap, append-nil, append_assoc, arith, codes, cond, decimal, drop, eqb, false, flat_map, fold, get_or, if◌then◌else◌, inl, inr, length, length-append, min, option_to_list, refl, replicate, rules, slice_get, subst, suc, sum_by, sym, take, take_all, true, zero, ℕ, ◌++◌, ◌+◌, ◌-◌, ◌<◌, ◌==◌, ◌||◌, ◌↔◌, ◌∙◌, ◌∷◌, ◌≡◌, ◌≢◌, ◌≤◌, ◌⊎◌}
 pub use Rattle.std.proofs.Math.Seq.{take-append_seam}
 pub use Rattle.std.proofs.lemmas.Bool.{cases_Bool, cases_eq, cases_lt, cases_order}

@@ -21,7 +21,7 @@ use Rattle.log_lines.specs.Lines.{IsLine, Line, is_note, line_text}
 use Rattle.service_conformance.specs.Judged.{AreJudgedReplies, Judged as Call, WindowStep, words_of}
 use Rattle.service_conformance.specs.Looks.{Watched, unwatched}
 use Rattle.service_conformance.specs.declared.conformance.seen_reply.SeenReply.{SeenReply}
-use Rattle.service_descriptions.specs.declared.replay.lines.service_line.ServiceLine.{ServiceLine}
+use Rattle.service_descriptions.specs.declared.replay.lines.line.ServiceLine.{ServiceLine}
 use Rattle.service_descriptions.specs.Script.{IsServiceLine, service_line}
 use Rattle.history_logs.specs.declared.logs.verdict.Configuration.{Configuration}
 use Rattle.history_logs.specs.declared.logs.verdict.Expected.{Expected}

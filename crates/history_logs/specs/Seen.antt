@@ -18,7 +18,7 @@ use Rattle.service_conformance.specs.Calls.{call_of}
 use Rattle.service_conformance.specs.Judged.{Judged, judged_answered, role_added, shown, stopped}
 use Rattle.service_conformance.specs.Judged.Judged.{call, starts, stops}
 use Rattle.service_conformance.specs.Sides.{HasPart, LacksPart}
-use Rattle.service_descriptions.specs.declared.replay.lines.service_line.ServiceLine.{ServiceLine}
+use Rattle.service_descriptions.specs.declared.replay.lines.line.ServiceLine.{ServiceLine}
 use Rattle.service_descriptions.specs.Script.{first_state}
 use Rattle.service_descriptions.specs.declared.replay.machine.command.Command.{Command}
 use Rattle.service_descriptions.specs.declared.replay.machine.command.Command.TheVariants as command

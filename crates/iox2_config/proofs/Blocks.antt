@@ -9,7 +9,7 @@ use Rattle.iox2_config.specs.Layout.{sample_size, payload_part, parts, element, 
 use Rattle.iox2_config.specs.Parts.{IsAligned, Within, Holds}
 use Rattle.iox2_config.specs.TypeDetailParts.{IsAlignment}
 use Rattle.iox2_config.specs.declared.types.message_details.MessageTypeDetails.{MessageTypeDetails}
-use Rattle.iox2_config.proofs.Powers.{smaller_divides}
+use Rattle.iox2_config.proofs.Rounding.{smaller_divides}
 
 -- an opener's alignment, which is at most the service's, divides it
 divides : (o s : ℕ) → IsTrue (is_power_of_two o) → IsAlignment s → 0 < s → o ≤ s → o ∣ s

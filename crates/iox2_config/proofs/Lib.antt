@@ -2,5 +2,4 @@ pub mod Blocks
 pub mod Compatible
 pub mod Equality
 pub mod FileNames
-pub mod Powers
 pub mod Rounding

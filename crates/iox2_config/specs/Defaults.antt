@@ -2,14 +2,14 @@
 use Rattle.std.specs.Prelude.{◌≡◌, ◌*◌, true, None}
 use Rattle.std.specs.Duration.{as_nanos}
 use lib.Chars.{codes}
-use Rattle.iox2_config.specs.declared.config.service.Service.{Service}
-use Rattle.iox2_config.specs.declared.config.node.Node.{Node}
+use Rattle.iox2_config.specs.declared.config.global.Service.{Service}
+use Rattle.iox2_config.specs.declared.config.global.Node.{Node}
 use Rattle.iox2_config.specs.declared.config.Config.{Config}
 use Rattle.iox2_config.specs.GlobalSettings.{GlobalSettings}
-use Rattle.iox2_config.specs.declared.config.publish_subscribe.PublishSubscribe.{PublishSubscribe}
-use Rattle.iox2_config.specs.declared.config.event.Event.{Event}
-use Rattle.iox2_config.specs.declared.config.request_response.RequestResonse.{RequestResonse}
-use Rattle.iox2_config.specs.declared.config.blackboard.Blackboard.{Blackboard}
+use Rattle.iox2_config.specs.declared.config.defaults.PublishSubscribe.{PublishSubscribe}
+use Rattle.iox2_config.specs.declared.config.defaults.Event.{Event}
+use Rattle.iox2_config.specs.declared.config.defaults.RequestResonse.{RequestResonse}
+use Rattle.iox2_config.specs.declared.config.defaults.Blackboard.{Blackboard}
 use Rattle.iox2_config.specs.declared.config.defaults.Defaults.{Defaults}
 use Rattle.iox2_config.specs.declared.config.choices.BackpressureStrategy.TheVariants.{RetryUntilDelivered}
 use Rattle.iox2_config.specs.declared.config.choices.AllocationStrategy.TheVariants.{Static}

@@ -1,8 +1,8 @@
 -- What a contract sees of the settings of a whole system.
 use Rattle.std.specs.Prelude.{ℕ, List}
 use Rattle.std.specs.declared.time.Duration.{Duration}
-use Rattle.iox2_config.specs.declared.config.service.Service.{Service}
-use Rattle.iox2_config.specs.declared.config.node.Node.{Node}
+use Rattle.iox2_config.specs.declared.config.global.Service.{Service}
+use Rattle.iox2_config.specs.declared.config.global.Node.{Node}
 
 -- the root path and the public settings beside it
 pub record GlobalSettings : Type 0 where

@@ -3,7 +3,7 @@ use Rattle.std.specs.Prelude.{ℕ, ◌+◌, ◌-◌, ◌*◌, ◌^◌, ◌<◌, 
 use Rattle.iox2_texts.specs.Multiple.{least_multiple}
 use Rattle.iox2_config.specs.Parts.{Part}
 use Rattle.iox2_config.specs.declared.types.message_details.MessageTypeDetails.{MessageTypeDetails}
-use Rattle.iox2_config.specs.declared.types.places.Places.{Places}
+use Rattle.iox2_config.specs.declared.types.layout.Places.{Places}
 
 -- the user header lies behind the header, at the first offset that suits it
 abbrev pub user_header_offset : MessageTypeDetails → ℕ → ℕ

@@ -5,28 +5,14 @@
 ghost use Rattle.std.specs.Prelude.{◌≡◌};
 ghost use lib.Chars.{codes};
 
-mod blackboard;
 mod choices;
 mod defaults;
-mod event;
 mod global;
-mod literals;
-mod node;
-mod publish_subscribe;
-mod request_response;
-mod service;
 
-pub use blackboard::Blackboard;
 pub use choices::{AllocationStrategy, BackpressureStrategy, DataSegmentType, EventId};
-pub use defaults::Defaults;
-pub use event::Event;
-pub use global::Global;
+pub use defaults::{Blackboard, Defaults, Event, PublishSubscribe, RequestResonse};
+pub use global::{Global, Node, Service};
 use iox2_texts::paths::{FileName, FilePath, Path};
-use literals::literal;
-pub use node::Node;
-pub use publish_subscribe::PublishSubscribe;
-pub use request_response::RequestResonse;
-pub use service::Service;
 
 /// All settings: those of the system, and those that services get by default.
 ///
@@ -62,14 +48,14 @@ impl Config {
     pub fn default_config_file_name() -> FileName
         ensures { result ≡ codes "iceoryx2.toml" }
     {
-        literal(b"iceoryx2.toml")
+        FileName::from_legal(b"iceoryx2.toml")
     }
 
     /// The configuration file of a working directory, `config/iceoryx2.toml`.
     pub fn default_config_file_path() -> FilePath
         ensures { result ≡ codes "config/iceoryx2.toml" }
     {
-        literal(b"config/iceoryx2.toml")
+        FilePath::from_legal(b"config/iceoryx2.toml")
     }
 
     /// The directory, below one for configurations, that
@@ -77,7 +63,7 @@ impl Config {
     pub fn relative_config_path() -> Path
         ensures { result ≡ codes "iceoryx2" }
     {
-        literal(b"iceoryx2")
+        Path::from_legal(b"iceoryx2")
     }
 
     /// The configuration file below a user's directory for configurations,
@@ -85,7 +71,7 @@ impl Config {
     pub fn default_user_config_file_path() -> FilePath
         ensures { result ≡ codes "iceoryx2/iceoryx2.toml" }
     {
-        literal(b"iceoryx2/iceoryx2.toml")
+        FilePath::from_legal(b"iceoryx2/iceoryx2.toml")
     }
 
     /// An equal configuration.

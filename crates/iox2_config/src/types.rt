@@ -3,14 +3,11 @@
 mod incompatibility;
 mod layout;
 mod message_details;
-mod places;
-mod sample_layout;
 mod type_detail;
 mod zero_copy_send;
 
 pub use incompatibility::{Difference, Incompatibility};
+pub use layout::{Places, SampleLayout};
 pub use message_details::MessageTypeDetails;
-pub use places::Places;
-pub use sample_layout::SampleLayout;
 pub use type_detail::{MAX_TYPE_NAME_LENGTH, TypeDetail, TypeDetailError, TypeName, TypeVariant};
 pub use zero_copy_send::ZeroCopySend;

@@ -4,12 +4,12 @@ use Rattle.std.specs.Duration.{as_nanos}
 use Rattle.std.specs.Prelude.{option_map}
 use Rattle.std.specs.declared.time.Duration.{Duration}
 use Rattle.iox2_config.specs.declared.config.Config.{Config}
-use Rattle.iox2_config.specs.declared.config.blackboard.Blackboard.{Blackboard}
-use Rattle.iox2_config.specs.declared.config.event.Event.{Event}
-use Rattle.iox2_config.specs.declared.config.node.Node.{Node}
-use Rattle.iox2_config.specs.declared.config.publish_subscribe.PublishSubscribe.{PublishSubscribe}
-use Rattle.iox2_config.specs.declared.config.request_response.RequestResonse.{RequestResonse}
-use Rattle.iox2_config.specs.declared.config.service.Service.{Service}
+use Rattle.iox2_config.specs.declared.config.defaults.Blackboard.{Blackboard}
+use Rattle.iox2_config.specs.declared.config.defaults.Event.{Event}
+use Rattle.iox2_config.specs.declared.config.global.Node.{Node}
+use Rattle.iox2_config.specs.declared.config.defaults.PublishSubscribe.{PublishSubscribe}
+use Rattle.iox2_config.specs.declared.config.defaults.RequestResonse.{RequestResonse}
+use Rattle.iox2_config.specs.declared.config.global.Service.{Service}
 use Rattle.iox2_config_file.specs.Answers.{HaveEqualFields, AreSame}
 use Rattle.iox2_config_file.specs.Settings.{global_settings, service_settings, node_settings, publish_subscribe_settings, event_settings, request_response_settings, blackboard_settings}
 use Rattle.iox2_config_file.specs.Values.{number, duration, option_value}

@@ -15,7 +15,7 @@ use Rattle.toml.proofs.ReadLines.{run}
 use Rattle.toml.proofs.Fill.{run-append}
 use Rattle.iox2_config.specs.Defaults.{IsDefaultConfig}
 use Rattle.iox2_config.specs.declared.config.Config.{Config}
-use Rattle.iox2_config.specs.declared.config.event.Event.{Event}
+use Rattle.iox2_config.specs.declared.config.defaults.Event.{Event}
 use Rattle.std.specs.declared.time.Duration.{Duration}
 use Rattle.iox2_config_file.specs.declared.section.Section.{Section}
 use Rattle.iox2_config_file.specs.declared.section.Section.TheVariants as section

@@ -11,13 +11,13 @@ use Rattle.std.specs.declared.time.Duration.{Duration}
 use Rattle.iox2_config.specs.declared.config.choices.BackpressureStrategy.{BackpressureStrategy}
 use Rattle.iox2_config.specs.declared.config.choices.AllocationStrategy.{AllocationStrategy}
 use Rattle.iox2_config.specs.GlobalSettings.{GlobalSettings}
-use Rattle.iox2_config.specs.declared.config.service.Service.{Service}
-use Rattle.iox2_config.specs.declared.config.node.Node.{Node}
+use Rattle.iox2_config.specs.declared.config.global.Service.{Service}
+use Rattle.iox2_config.specs.declared.config.global.Node.{Node}
 use Rattle.iox2_config.specs.declared.config.Config.{Config}
-use Rattle.iox2_config.specs.declared.config.publish_subscribe.PublishSubscribe.{PublishSubscribe}
-use Rattle.iox2_config.specs.declared.config.event.Event.{Event}
-use Rattle.iox2_config.specs.declared.config.request_response.RequestResonse.{RequestResonse}
-use Rattle.iox2_config.specs.declared.config.blackboard.Blackboard.{Blackboard}
+use Rattle.iox2_config.specs.declared.config.defaults.PublishSubscribe.{PublishSubscribe}
+use Rattle.iox2_config.specs.declared.config.defaults.Event.{Event}
+use Rattle.iox2_config.specs.declared.config.defaults.RequestResonse.{RequestResonse}
+use Rattle.iox2_config.specs.declared.config.defaults.Blackboard.{Blackboard}
 use Rattle.iox2_config_file.specs.declared.fault.Kind.{Kind}
 use Rattle.iox2_config_file.specs.declared.fault.Kind.TheVariants as kind
 use Rattle.iox2_config_file.specs.Values.{SettingValue, number, flag, text, backpressure, allocation, duration, option_value}

@@ -47,5 +47,5 @@ pub use Rattle.iox2_container.specs.declared.container.cell.Cell.{Cell}
 pub use Rattle.iox2_container.specs.declared.container.cell.Cell.TheVariants.{Free, Taken}
 pub use Rattle.iox2_container.specs.declared.container.cell.Occupant.{Occupant}
 pub use Rattle.iox2_texts.specs.Attribute.{Visits}
-pub use Rattle.iox2_texts.specs.declared.bounded.callback_progression.CallbackProgression.{CallbackProgression}
-pub use Rattle.iox2_texts.specs.declared.bounded.callback_progression.CallbackProgression.TheVariants.{Continue, Stop}
+pub use Rattle.iox2_texts.specs.declared.bounded.CallbackProgression.{CallbackProgression}
+pub use Rattle.iox2_texts.specs.declared.bounded.CallbackProgression.TheVariants.{Continue, Stop}

@@ -2,7 +2,7 @@
 use Rattle.std.specs.Fn.{Mut, CalledAt, TakesAt}
 use denote.Ref.{Bor}
 use denote.Param.Always.{always_mut}
-use Rattle.iox2_texts.specs.declared.bounded.callback_progression.CallbackProgression.{CallbackProgression}
+use Rattle.iox2_texts.specs.declared.bounded.CallbackProgression.{CallbackProgression}
 use Rattle.iox2_dynamic.proofs.Names.{Role, listed, PortDetails, Ports, CanListIn}
 use Rattle.iox2_container.proofs.Callable.{callbacks as container_callbacks, CanVisit-from_total, CanVisit-from_always}
 

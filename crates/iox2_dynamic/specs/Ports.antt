@@ -1,6 +1,6 @@
 -- The ports of a service, and what the calls on them do.
 use Rattle.std.specs.Prelude.{◌≡◌, ◌≢◌, ℕ, ◌+◌, ◌≤◌, nat_lt, ◌||◌, ◌⊎◌, Bool, true, false, Option, Some, None, Result, Err, List, ◌++◌, length}
-use Rattle.iox2_texts.specs.declared.bounded.callback_progression.CallbackProgression.{CallbackProgression}
+use Rattle.iox2_texts.specs.declared.bounded.CallbackProgression.{CallbackProgression}
 use Rattle.iox2_dynamic.specs.Prelude.{UniquePortId, ContainerAddFailure, ContainerRemoveError, Default, ReleaseState, Role, Handle, ContainerState, fresh, RegistryState, Visit, IsUnknownHandle, HasEntry, TakesEntry, details_where, entries_of, is_of, listed, PortCleanupAction, PortDetails, Adds, Removes}
 use Rattle.iox2_container.specs.declared.container.refusal.ContainerRemoveError.TheVariants.{ContainerHandleNotOwnedByContainer}
 use Rattle.iox2_container.specs.Callbacks.{CanVisit}

@@ -1,61 +1,46 @@
 -- The greatest number of chunks in use is the sum of the limits.
-use Rattle.std.proofs.Common.{◌≡◌, ℕ, suc, zero, ◌+◌, ◌<◌, ◌≤◌, ◌^◌, List, [], ◌∷◌, ◌++◌, length, sum, refl, sym, ap, ◌∙◌, subst, arith, false, ne_eqb, Option, Some, None, MatchOption}
+use Rattle.std.proofs.Common.{◌≡◌, ℕ, suc, zero, ◌+◌, ◌<◌, ◌≤◌, ◌^◌, List, [], ◌∷◌, ◌++◌, length, sum, take, drop, refl, sym, ap, ◌∙◌, subst, arith, false, ne_eqb, Option, Some, None, MatchOption}
 use Rattle.std.specs.Prelude.{nat_eq}
-use Rattle.std.specs.List.{AllByRecursion, concat, Contains, IsDistinct}
+use Rattle.std.specs.List.{AllByRecursion, concat, Contains, IsDistinct, range_with_len}
 use Rattle.std.proofs.lemmas.Cmp.{nat_eq_equiv}
-use Rattle.std.proofs.lemmas.List.{length-append}
+use Rattle.std.proofs.lemmas.List.{length-append, length-drop, length-take, take-append-drop}
+use Rattle.std.proofs.lemmas.List.FromFn.{length-range_with_len}
 use Rattle.std.proofs.lemmas.List.Sums.{sum_by-cons}
 use Rattle.std.proofs.lemmas.Map.Made.{length-le_from_is_member, is_member-Decides}
 use Rattle.std.proofs.lemmas.Bool.Decides.{Decides-eqb}
 use Rattle.iox2_static.specs.Chunks.{IsHolding, IsGreatest, ReportsGreatest}
 
--- the numbers from k on, n of them
-numbers : ℕ → ℕ → List ℕ
-numbers k zero = []
-numbers k (suc n) = k ∷ numbers (suc k) n
-
-length-numbers : (k n : ℕ) → length (numbers k n) ≡ n
-unfolding numbers
-length-numbers k zero = refl
-length-numbers k (suc n) = ap suc (length-numbers (suc k) n)
-
--- each is at least k, so none is a number below
-none_below : (q k n : ℕ) → q < k → AllByRecursion (λ y. nat_eq q y ≡ false) (numbers k n)
-unfolding numbers
+-- none of the numbers from k on is below k
+none_below : (q k n : ℕ) → q < k → AllByRecursion (λ y. nat_eq q y ≡ false) (range_with_len k n)
 none_below q k zero l = tt
-none_below q k (suc n) l = (ne_eqb q k (λ e. omega arith), none_below q (suc k) n (omega arith))
+none_below q k (suc n) l = (ne_eqb q k (λ e. omega arith), none_below q (k + 1) n (omega arith))
 
-numbers_distinct : (k n : ℕ) → IsDistinct nat_eq (numbers k n)
-unfolding numbers IsDistinct
-numbers_distinct k zero = tt
-numbers_distinct k (suc n) = (none_below k (suc k) n (omega arith), numbers_distinct (suc k) n)
+range_distinct : (k n : ℕ) → IsDistinct nat_eq (range_with_len k n)
+unfolding IsDistinct
+range_distinct k zero = tt
+range_distinct k (suc n) = (none_below k (k + 1) n (omega arith), range_distinct (k + 1) n)
 
-numbers-append : (k m n : ℕ) → numbers k m ++ numbers (k + m) n ≡ numbers k (m + n)
-unfolding numbers
-numbers-append k zero n = grind arith
-numbers-append k (suc m) n =
-    let from : k + suc m ≡ suc k + m = omega arith in
-    let many : suc m + n ≡ suc (m + n) = omega arith in
-    rw (from, many) (ap (λ rest. k ∷ rest) (numbers-append (suc k) m n))
+-- the chunks holder by holder
+pieces : List ℕ → List ℕ → List (List ℕ)
+pieces [] chunks = []
+pieces (limit ∷ limits) chunks = take limit chunks ∷ pieces limits (drop limit chunks)
 
--- the chunks numbered holder by holder
-numbered : ℕ → List ℕ → List (List ℕ)
-numbered k [] = []
-numbered k (limit ∷ limits) = numbers k limit ∷ numbered (k + limit) limits
+pieces_hold : (limits chunks : List ℕ) → IsHolding limits (pieces limits chunks)
+unfolding pieces
+pieces_hold [] chunks = tt
+pieces_hold (limit ∷ limits) chunks =
+    (omega (arith, length-take limit chunks), pieces_hold limits (drop limit chunks))
 
-numbered_is_holding : (k : ℕ) (limits : List ℕ) → IsHolding limits (numbered k limits)
-unfolding numbered
-numbered_is_holding k [] = tt
-numbered_is_holding k (limit ∷ limits) =
-    (let e = length-numbers k limit in omega arith, numbered_is_holding (k + limit) limits)
-
-concat-numbered : (k : ℕ) (limits : List ℕ) → concat (numbered k limits) ≡ numbers k (sum limits)
-unfolding numbered numbers
-concat-numbered k [] = refl
-concat-numbered k (limit ∷ limits) =
-    ap (λ rest. numbers k limit ++ rest) (concat-numbered (k + limit) limits)
-    ∙ numbers-append k limit (sum limits)
-    ∙ ap (λ n. numbers k n) (sym (sum_by-cons (λ x. x) limit limits))
+concat-pieces : (limits chunks : List ℕ) → length chunks ≡ sum limits
+    → concat (pieces limits chunks) ≡ chunks
+unfolding pieces
+concat-pieces [] [] e = refl
+concat-pieces [] (chunk ∷ chunks) e = absurd (omega arith)
+concat-pieces (limit ∷ limits) chunks e =
+    let total = sum_by-cons (λ x. x) limit limits in
+    let rest = concat-pieces limits (drop limit chunks)
+    (omega (arith, length-drop limit chunks, total)) in
+    ap (λ others. take limit chunks ++ others) rest ∙ take-append-drop limit chunks
 
 -- a holding has no more chunks than the limits add up to
 length-concat : (limits : List ℕ) (holding : List (List ℕ)) → IsHolding limits holding
@@ -82,15 +67,16 @@ length-le_from_distinct xs ys d h =
 
 greatest_is_sum : (limits : List ℕ) → IsGreatest limits (sum limits)
 greatest_is_sum limits =
-    let all = concat-numbered 0 limits in (
+    let chunks = range_with_len 0 (sum limits) in
+    let size = length-range_with_len 0 (sum limits) in (
       (
-        numbered 0 limits,
-        numbered_is_holding 0 limits,
+        pieces limits chunks,
+        pieces_hold limits chunks,
         (
-          concat (numbered 0 limits),
-          ap length all ∙ length-numbers 0 (sum limits),
-          subst (λ xs. IsDistinct nat_eq xs) (sym all) (numbers_distinct 0 (sum limits)),
-          λ chunk. (λ h. h, λ h. h),
+          chunks,
+          size,
+          range_distinct 0 (sum limits),
+          λ chunk. rw (concat-pieces limits chunks size) (λ h. h, λ h. h),
         ),
       ),
       λ holding d h used.

@@ -1,5 +1,5 @@
 -- Static configurations of blackboard services.
-use Rattle.iox2_config.specs.declared.config.blackboard.Blackboard.{Blackboard}
+use Rattle.iox2_config.specs.declared.config.defaults.Blackboard.{Blackboard}
 use Rattle.iox2_config.specs.TypeDetailParts.{default_detail}
 use Rattle.iox2_static.specs.declared.static_config.blackboard.StaticConfig.{StaticConfig}
 

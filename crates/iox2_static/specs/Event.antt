@@ -1,7 +1,7 @@
 -- Static configurations of event services.
 use Rattle.std.specs.Prelude.{Option, Some, None}
 use Rattle.std.specs.declared.time.Duration.{Duration}
-use Rattle.iox2_config.specs.declared.config.event.Event.{Event}
+use Rattle.iox2_config.specs.declared.config.defaults.Event.{Event}
 use Rattle.iox2_static.specs.declared.static_config.event.Deadline.{Deadline}
 use Rattle.iox2_static.specs.declared.static_config.event.StaticConfig.{StaticConfig}
 

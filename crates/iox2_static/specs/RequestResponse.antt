@@ -1,6 +1,6 @@
 -- Static configurations of request-response services.
 use Rattle.std.specs.Prelude.{ℕ, ◌+◌, ◌*◌, List, [], ◌∷◌, ◌++◌, replicate}
-use Rattle.iox2_config.specs.declared.config.request_response.RequestResonse.{RequestResonse}
+use Rattle.iox2_config.specs.declared.config.defaults.RequestResonse.{RequestResonse}
 use Rattle.iox2_config.specs.DefaultTypes.{default_details}
 use Rattle.iox2_static.specs.declared.static_config.request_response.StaticConfig.{StaticConfig}
 

@@ -1,15 +1,15 @@
 //! What is fixed of a service: its name, its id, its hash text, its pattern with that pattern's
 //! settings, and its attributes.
-ghost use Rattle.std.specs.Prelude.{◌≡◌, ◌↔◌, IsTrue};
+ghost use Rattle.std.specs.Prelude.{◌≡◌, ◌↔◌, ◌+◌, ◌*◌, ℕ, List, IsTrue, sum};
 ghost use Rattle.iox2_static.specs.PublishSubscribe.{publish_subscribe_of};
 ghost use Rattle.iox2_static.specs.RequestResponse.{request_response_of};
 ghost use Rattle.iox2_static.specs.Event.{event_of};
 ghost use Rattle.iox2_static.specs.Blackboard.{blackboard_of};
+ghost use Rattle.iox2_static.specs.Chunks.{ReportsGreatest};
 ghost use Rattle.iox2_static.specs.MessagingPattern.{kind_of};
 ghost use Rattle.iox2_static.specs.Description.{Description, Describes};
 
 pub mod blackboard;
-mod chunks;
 pub mod event;
 pub mod messaging_pattern;
 pub mod publish_subscribe;
@@ -341,4 +341,18 @@ impl StaticConfig {
             messaging_pattern: self.messaging_pattern.copied(),
         }
     }
+}
+
+/// The greatest number of chunks in use at once, where the limits of all that hold chunks add up to
+/// `holders * for_each + others`.
+///
+/// Only the final number is compared with the greatest `usize`: a huge `for_each` is no error where
+/// there are no holders.
+#[tactic(auto, using(crate::proofs::Greatest::tells))]
+fn amount_of_chunks(holders: u128, for_each: u128, others: u128) -> Option<usize>
+    ensures { (limits : List ℕ) → sum limits ≡ holders * for_each + others
+        → ReportsGreatest limits result }
+{
+    let total = holders.checked_mul(for_each)?.checked_add(others)?;
+    usize::try_from(total).ok()
 }

@@ -1,6 +1,5 @@
 pub mod Callable
 pub mod ListingLemmas
 pub mod Multiple
-pub mod PathLemmas
 pub mod TextLemmas
 pub mod VerifyLemmas

@@ -1,12 +1,11 @@
 -- Lemmas on what a verifier finds missing.
-use Rattle.std.proofs.Common.{◌≡◌, ℕ, ◌+◌, ◌-◌, ◌<◌, ◌≤◌, Bool, Option, None, Some, false, List, length, get_or, take, drop, map, ap, sym, ◌∙◌, subst, inl, inr, arith, take_all, true≢false}
+use Rattle.std.proofs.Common.{◌≡◌, ℕ, ◌+◌, ◌-◌, ◌<◌, ◌≤◌, Bool, Option, None, Some, false, List, length, get_or, take, drop, map, ap, sym, ◌∙◌, subst, arith, take_all, true≢false}
 use Rattle.std.specs.Prelude.{All, Any, Contains, IsSorted, IsTrue, ◌↔◌, MatchOption, option_map}
 use Rattle.std.specs.Ordering.{is_lt}
 use Rattle.std.specs.Cmp.{IsTotalOrder, on_total, then_total}
 use Rattle.std.specs.Cmp.Lexicographic.{nat_list_cmp_total}
-use Rattle.std.proofs.lemmas.Bool.{cases_lt}
-use Rattle.std.proofs.lemmas.List.{get_or_default, get_or-drop, get_or-take, length-drop, length-take-le, take-map, take_rest}
-use Rattle.std.proofs.lemmas.List.Elements.{All-map, All-weaker}
+use Rattle.std.proofs.lemmas.List.{get_or_default, get_or-drop, get_or-take, length-drop, length-take-le, take-append-drop, take-map, take_rest}
+use Rattle.std.proofs.lemmas.List.Elements.{All-append, All-map, All-weaker}
 use Rattle.std.proofs.lemmas.List.Sorted.{ranks_by, sorted_far}
 use Rattle.std.proofs.lemmas.Option.{get_or_from_slice_get, slice_get-map, slice_get_within}
 use Rattle.iox2_texts.specs.Pair.{Pair, pair_cmp}
@@ -27,9 +26,6 @@ all_of_take P xs i past all = subst (λ ys. All P ys) (take_all i xs past) all
 pub refuted : (b : Bool) (P : Type 0) → (IsTrue b ↔ P) → b ≡ false → ¬ P
 refuted b P tells failed holds = true≢false (sym (tells.1 holds) ∙ failed)
 
-sum_back : (from k : ℕ) → from ≤ k → from + (k - from) ≡ k
-sum_back from k high = omega arith
-
 -- where none stands from an index on, what is found before it is found in all of the list
 pub found_before : {X : Type 0} (P : X → Type 0) (xs : List X) (from : ℕ) (r : Option ℕ)
     → from ≤ length xs
@@ -37,23 +33,15 @@ pub found_before : {X : Type 0} (P : X → Type 0) (xs : List X) (from : ℕ) (r
     → MatchOption r (¬ (Any P xs)) (λ i. (i < length xs) × Any P xs)
 found_before P xs from None fits behind before = λ has.
     let (k, x, inside, is, met) = has in
-    let short = length-take-le from xs fits in
-    elim (cases_lt k from) [
-      | inl low ↦
-          let here : get_or (take from xs) k x ≡ x = get_or-take from xs k x low ∙ is in
-          before k x (omega (arith, low, short)) (subst P (sym here) met)
-      | inr high ↦
-          let none = rw take_rest at behind in
-          let back : get_or xs (from + (k - from)) x ≡ get_or xs k x = cc (sum_back from k high) in
-          let here : get_or (drop from xs) (k - from) x ≡ x =
-          get_or-drop from xs (k - from) x ∙ back ∙ is in
-          none (k - from) x (omega (arith, high, inside, length-drop from xs))
-          (subst P (sym here) met)
-    ]
+    let rest = rw take_rest at behind in
+    let none : All (λ y. ¬ (P y)) xs =
+    subst (All (λ y. ¬ (P y))) (take-append-drop from xs)
+    (All-append (λ y. ¬ (P y)) (take from xs) (drop from xs) before rest) in
+    none k x inside (subst P (sym is) met)
 found_before P xs from (Some i) fits behind before =
     let (x, is, met, none) = before in
-    let short = length-take-le from xs fits in
-    let low : i < from = omega (arith, slice_get_within (take from xs) i x is, short) in
+    let low : i < from =
+    omega (arith, slice_get_within (take from xs) i x is, length-take-le from xs fits) in
     let here : get_or xs i x ≡ x =
     sym (get_or-take from xs i x low) ∙ get_or_from_slice_get (take from xs) i x x is in
     (omega (arith, low, fits), (i, x, omega (arith, low, fits), here, met))

@@ -2,8 +2,8 @@
 use Rattle.std.specs.Prelude.{◌≡◌, ℕ, List, [], ◌∷◌, ◌⊎◌, map, filter, Bool, nat_eq, Any, IsPermutation, IsSorted}
 use Rattle.std.specs.Cmp.Lexicographic.{pointwise}
 use Rattle.iox2_texts.specs.Pair.{Pair, pair_cmp}
-use Rattle.iox2_texts.specs.declared.bounded.callback_progression.CallbackProgression.{CallbackProgression}
-use Rattle.iox2_texts.specs.declared.bounded.callback_progression.CallbackProgression.TheVariants.{Continue, Stop}
+use Rattle.iox2_texts.specs.declared.bounded.CallbackProgression.{CallbackProgression}
+use Rattle.iox2_texts.specs.declared.bounded.CallbackProgression.TheVariants.{Continue, Stop}
 
 -- `listing` is the sorted list of the pairs `content`,
 -- which stand in any order and with their repeats

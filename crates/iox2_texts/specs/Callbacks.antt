@@ -1,7 +1,7 @@
 -- When a callback may be called on items in turn, for as long as it answers `Continue`.
 use Rattle.std.specs.Prelude.{List, [], ◌∷◌, ⊤}
-use Rattle.iox2_texts.specs.declared.bounded.callback_progression.CallbackProgression.{CallbackProgression}
-use Rattle.iox2_texts.specs.declared.bounded.callback_progression.CallbackProgression.TheVariants.{Continue}
+use Rattle.iox2_texts.specs.declared.bounded.CallbackProgression.{CallbackProgression}
+use Rattle.iox2_texts.specs.declared.bounded.CallbackProgression.TheVariants.{Continue}
 
 -- the callback may be called on the first item in the state f, and on each later one in every state
 -- in which the call on the one before it, which answered `Continue`, may leave it

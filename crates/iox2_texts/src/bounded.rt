@@ -2,16 +2,13 @@
 //! least multiples.
 //!
 //! A text holds bytes from 1 to 127 alone: ASCII without the zero byte.
-ghost use Rattle.std.specs.Prelude.{◌≡◌, ◌↔◌, ◌+◌, ◌<◌, ◌≤◌, ◌++◌, [], Some, length, IsTrue};
+ghost use Rattle.std.specs.Prelude.{◌≡◌, ◌↔◌, ◌+◌, ◌<◌, ◌≤◌, ◌^◌, ◌++◌, [], Some, length, IsTrue};
+ghost use Rattle.iox2_texts.specs.Multiple.{IsLeastMultiple, least_multiple};
 ghost use Rattle.iox2_texts.specs.Text.{IsText, IsTextUpTo, MakesText, AppendsText};
 
-mod alignment;
-mod callback_progression;
 mod semantic_string;
 
-pub use alignment::align;
 use arrayvec::ArrayVec;
-pub use callback_progression::CallbackProgression;
 pub use semantic_string::{Content, SemanticString};
 use std::cmp::Ordering;
 use std::marker::Model;
@@ -48,6 +45,26 @@ impl From<StringModificationError> for SemanticStringError {
             StringModificationError::InvalidCharacter => SemanticStringError::InvalidContent,
         }
     }
+}
+
+/// Whether a callback wants to be called again.
+#[derive(Clone, Copy, Debug, PartialEq, Eq)]
+pub enum CallbackProgression {
+    /// With the next item, if there is one.
+    Continue,
+    /// Not again.
+    Stop,
+}
+
+/// The least multiple of `alignment` that is at least `value`.
+#[tactic(auto, using(crate::proofs::Multiple::multiples, std::proofs::lemmas::Grind::common_steps), unfolding(crate::specs::Multiple::least_multiple))]
+pub fn align(value: usize, alignment: usize) -> usize
+    requires nonzero { 0 < alignment }
+    requires fits { least_multiple value alignment < 2 ^ 64 }
+    ensures value { result ≡ least_multiple value alignment }
+    ensures least { IsLeastMultiple value alignment result }
+{
+    value.next_multiple_of(alignment)
 }
 
 /// A text of at most `N` bytes, each from 1 to 127. Comparisons go by its bytes.

@@ -2,8 +2,8 @@
 use Rattle.iox2sd.proofs.Names.{Bool, ContainerState, CountsIn, Entry, Id, IfNone, IfSome, IsTrue, LacksRole, List, ListsIn, None, Option, PatternKind, Port, PortDetails, Ports, Role, Service, Some, Visit, [], add-one, ap, arith, count_by-le-length, details_where, drop, false, filter, first_role, id_of, if◌then◌else◌, inl, inr, is_of, length, length-filter, listed, map, node_of, ports_of_node, refl, role_at, roles_differ, second_role, slice_set, subst, suc, sym, true, true≢false, ℕ, ◌++◌, ◌+◌, ◌<◌, ◌^◌, ◌↔◌, ◌∙◌, ◌∷◌, ◌≡◌, ◌≤◌}
 use Rattle.iox2sd.specs.Ports.{c_port}
 use Rattle.iox2sd.specs.Listings.{Counts, ListsAll, NeedsMore, Notes, NotesAll, NotesOfRole, PortsOf, Puts, PutsAll, PutsAt, Stand, nodes_in, ports_in, ports_of_kind}
-use Rattle.iox2_texts.specs.declared.bounded.callback_progression.CallbackProgression.TheVariants.{Continue, Stop}
-use Rattle.iox2_texts.specs.declared.bounded.callback_progression.CallbackProgression.{CallbackProgression}
+use Rattle.iox2_texts.specs.declared.bounded.CallbackProgression.TheVariants.{Continue, Stop}
+use Rattle.iox2_texts.specs.declared.bounded.CallbackProgression.{CallbackProgression}
 use Rattle.iox2_texts.specs.Attribute.{Visits}
 use Rattle.std.specs.Bool.{beq}
 use Rattle.std.specs.Option.{option_eq}

@@ -1,7 +1,7 @@
 -- Listings into a caller's array, of all nodes or ports and of a node's ports.
 use Rattle.std.specs.Prelude.{◌≡◌, Bool, true, false, ℕ, ◌+◌, ◌<◌, ◌≤◌, List, ◌++◌, Some, None, map, drop, length, slice_set, ◌⊎◌, ◌^◌, Option, [], ◌∷◌}
-use Rattle.iox2_texts.specs.declared.bounded.callback_progression.CallbackProgression.{CallbackProgression}
-use Rattle.iox2_texts.specs.declared.bounded.callback_progression.CallbackProgression.TheVariants.{Continue, Stop}
+use Rattle.iox2_texts.specs.declared.bounded.CallbackProgression.{CallbackProgression}
+use Rattle.iox2_texts.specs.declared.bounded.CallbackProgression.TheVariants.{Continue, Stop}
 use Rattle.iox2sd.specs.Prelude.{ContainerState, listed, Role, PortDetails, Ports, IsNeither, first_role, second_role, count_answer, id_of, Id, Port, Listed, All, TooShort, details_where, is_of, node_of, ports_of_node, ReadsNode}
 use Rattle.iox2_dynamic.specs.Service.{Service as Held}
 use Rattle.iox2sd.specs.Ports.{ReadsRole, c_port}

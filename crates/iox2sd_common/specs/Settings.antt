@@ -3,16 +3,16 @@ use Rattle.std.specs.Prelude.{ℕ, ◌/◌, ◌%◌, true, false, Option, Some, 
 pub use Rattle.std.specs.Duration.{as_nanos}
 pub use Rattle.std.specs.declared.time.Duration.{Duration}
 use Rattle.iox2_config.specs.GlobalSettings.{GlobalSettings}
-pub use Rattle.iox2_config.specs.declared.config.blackboard.Blackboard.{Blackboard}
+pub use Rattle.iox2_config.specs.declared.config.defaults.Blackboard.{Blackboard}
 pub use Rattle.iox2_config.specs.declared.config.choices.AllocationStrategy.{AllocationStrategy}
 use Rattle.iox2_config.specs.declared.config.choices.AllocationStrategy.TheVariants.{BestFit, PowerOfTwo, Static}
 pub use Rattle.iox2_config.specs.declared.config.choices.BackpressureStrategy.{BackpressureStrategy}
 use Rattle.iox2_config.specs.declared.config.choices.BackpressureStrategy.TheVariants.{RetryUntilDelivered, DiscardData}
-pub use Rattle.iox2_config.specs.declared.config.event.Event.{Event}
-use Rattle.iox2_config.specs.declared.config.node.Node.{Node}
-pub use Rattle.iox2_config.specs.declared.config.publish_subscribe.PublishSubscribe.{PublishSubscribe}
-pub use Rattle.iox2_config.specs.declared.config.request_response.RequestResonse.{RequestResonse}
-use Rattle.iox2_config.specs.declared.config.service.Service.{Service}
+pub use Rattle.iox2_config.specs.declared.config.defaults.Event.{Event}
+use Rattle.iox2_config.specs.declared.config.global.Node.{Node}
+pub use Rattle.iox2_config.specs.declared.config.defaults.PublishSubscribe.{PublishSubscribe}
+pub use Rattle.iox2_config.specs.declared.config.defaults.RequestResonse.{RequestResonse}
+use Rattle.iox2_config.specs.declared.config.global.Service.{Service}
 pub use Rattle.iox2sd_common.specs.declared.settings.BlackboardSettings.{BlackboardSettings}
 pub use Rattle.iox2sd_common.specs.declared.settings.EventSettings.{EventSettings}
 use Rattle.iox2sd_common.specs.declared.settings.GlobalSettings.{GlobalSettings as PlainGlobal}

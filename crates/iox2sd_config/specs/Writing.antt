@@ -6,8 +6,8 @@ use Rattle.std.specs.declared.time.Duration.{Duration}
 use Rattle.iox2_config.specs.GlobalSettings.{GlobalSettings}
 use Rattle.iox2_config.specs.declared.config.Config.{Config}
 use Rattle.iox2_config.specs.declared.config.defaults.Defaults.{Defaults}
-use Rattle.iox2_config.specs.declared.config.node.Node.{Node}
-use Rattle.iox2_config.specs.declared.config.service.Service.{Service}
+use Rattle.iox2_config.specs.declared.config.global.Node.{Node}
+use Rattle.iox2_config.specs.declared.config.global.Service.{Service}
 use Rattle.iox2_config_file.specs.Answers.{ReadsBack}
 use Rattle.iox2_config_file.specs.Write.{Writes as WritesFile}
 use Rattle.iox2_config_file.specs.declared.write.ConfigWriteError.{ConfigWriteError}

@@ -2,7 +2,7 @@
 use Rattle.iox2sd_values.proofs.Prelude.{ComparesAlike, Err, HasOneAnswer, None, Ok, Option, Result, Some, [], ap, arith, nat_eq, option_eq, option_map, refl, sym, true, true≢false, ℕ, ◌∙◌, ◌∷◌, ◌≡◌, ◌≤◌}
 use Rattle.std.specs.Duration.{as_nanos}
 use Rattle.std.specs.declared.time.Duration.{Duration}
-use Rattle.iox2_config.specs.declared.config.event.Event.{Event as Settings}
+use Rattle.iox2_config.specs.declared.config.defaults.Event.{Event as Settings}
 use Rattle.iox2_static.specs.Event.{deadline_of, duration_of, event_of}
 use Rattle.iox2_static.specs.Requirements.{first_unmet, is_as_long}
 use Rattle.iox2_static.specs.Satisfies.{publish_subscribe_requirements, event_requirements, request_response_requirements, blackboard_requirements}

@@ -20,7 +20,7 @@ use Rattle.iox2sd_common.specs.declared.status.Status.TheVariants as status
 use Rattle.iox2_config.specs.Blocks.{HoldsEverywhere}
 use Rattle.iox2_config.specs.Layout.{sample_size, payload_offset, places_in}
 use Rattle.iox2_config.specs.SampleLayoutParts.{SampleLayoutParts}
-use Rattle.iox2_config.specs.declared.types.places.Places.{Places}
+use Rattle.iox2_config.specs.declared.types.layout.Places.{Places}
 use Rattle.iox2sd_values.specs.declared.layout.LayoutAnswer.{LayoutAnswer}
 use Rattle.iox2sd_values.specs.declared.layout.PlacesAnswer.{PlacesAnswer}
 use Rattle.iox2_config.specs.Compatible.{FindsIncompatibility}

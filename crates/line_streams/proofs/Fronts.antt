@@ -1,13 +1,14 @@
 -- Numbers at the front of a text.
-use Rattle.std.proofs.Common.{◌≡◌, ◌≢◌, ℕ, zero, suc, ◌<◌, ◌≤◌, ◌^◌, ◌+◌, List, [], ◌∷◌, ◌++◌, length, get_or, take, drop, ◌-◌, ◌*◌, ◌⊎◌, inl, inr, arith, sym, ◌∙◌, refl, ap}
+use Rattle.std.proofs.Common.{◌≡◌, ◌≢◌, ℕ, zero, suc, ◌<◌, ◌≤◌, ◌^◌, ◌+◌, List, [], ◌∷◌, ◌++◌, length, get_or, take, drop, ◌-◌, ◌*◌, inl, inr, arith, sym, ◌∙◌, ap}
 use Rattle.std.specs.Fmt.{decimal}
 use Rattle.std.specs.Str.Parse.{AllDigits, digits_value}
 use Rattle.std.proofs.lemmas.Fmt.{digits_value-decimal, decimal_digit, decimal_nonempty, decimal-digits_value}
 use Rattle.std.proofs.lemmas.Str.Parse.{digit_from_value, digits_value-take-le}
 use Rattle.std.proofs.lemmas.Str.{digit_value_digit}
 use Rattle.std.proofs.lemmas.Int.Digits.{digits_more, digits_value_more}
+use Rattle.std.proofs.lemmas.Bool.{cases_lt}
 use Rattle.std.proofs.lemmas.List.{drop-drop, length-append, length-take-le, take-append-drop, take-append-le, get_or-take, length-drop, get_or-drop, get_or_past}
-use Rattle.std.proofs.Math.Seq.{take-length}
+use Rattle.std.proofs.Math.ListN.{get_or-append}
 use Rattle.line_streams.specs.Spelling.{EndsNumber, IsDigit}
 use Rattle.line_streams.specs.Numerals.{own, decimal_first, decimal_no_zero}
 
@@ -48,44 +49,10 @@ pub zero_found : (b most : ℕ) (rest bytes : List ℕ) → bytes ≡ b ∷ rest
 zero_found b most rest bytes e naught ends =
     ((omega arith, omega arith, ends), rw (decimal_digit 0 (omega arith)) (rw naught at e))
 
-starts : (ds rest : List ℕ) → 0 < length ds → IsDigit (get_or ds 0 0)
-    → IsDigit (get_or (ds ++ rest) 0 0)
-starts [] rest some digit = absurd (omega arith)
-starts (d ∷ ds) rest some digit = digit
-
 pub starts_with_digit : (n : ℕ) (rest bytes : List ℕ) → n < 2 ^ 64 → bytes ≡ decimal n ++ rest
     → IsDigit (get_or bytes 0 0)
 starts_with_digit n rest bytes h e =
-    rw e (starts (decimal n) rest (decimal_nonempty n h) (decimal_first n h))
-
--- what follows the first i items, up to the end
-pub slice_tail : (bs : List ℕ) (i : ℕ) → take (length bs - i) (drop i bs) ≡ drop i bs
-slice_tail bs i = rw (← length-drop i bs) (take-length (drop i bs))
-
--- all digits at the front, with no spare zero, are their number's spelling
-pub number_found : (bytes : List ℕ) (i value most : ℕ) → 0 < i → i ≤ length bytes
-    → AllDigits 10 (take i bytes) → value ≡ digits_value 10 (take i bytes) → value ≤ most
-    → most < 2 ^ 64
-    → (1 < i → get_or bytes 0 0 ≢ 48) → EndsNumber (drop i bytes)
-    → ((value ≤ most) × (value < 2 ^ 64) × EndsNumber (take (length bytes - i) (drop i bytes)))
-    × (bytes ≡ decimal value ++ take (length bytes - i) (drop i bytes))
-number_found bytes i value most some le d is small fits plain ends =
-    let h : value < 2 ^ 64 = omega (arith, small, fits) in
-    let len : length (take i bytes) ≡ i = length-take-le i bytes le in
-    let alone : get_or (take i bytes) 0 0 ≡ 48 → length (take i bytes) ≡ 1 =
-    λ naught. elim (one_or_more i some) [
-      | inl one ↦ len ∙ one
-      | inr more ↦ absurd (plain more (sym (get_or-take i bytes 0 0 some) ∙ naught))
-    ] in
-    let text : decimal (digits_value 10 (take i bytes)) ≡ take i bytes =
-    decimal-digits_value own (take i bytes) d (omega arith) alone (rw is at h) in
-    let tail = slice_tail bytes i in
-    ((small, h, rw tail ends), rw (tail, is, text) (sym (take-append-drop i bytes)))
-  where
-    one_or_more : (k : ℕ) → 0 < k → (k ≡ 1) ⊎ (1 < k)
-    one_or_more zero some = absurd (omega arith)
-    one_or_more (suc zero) some = inl refl
-    one_or_more (suc (suc k)) some = inr (omega arith)
+    rw (e, get_or-append (decimal n) rest 0 0 (decimal_nonempty n h)) (decimal_first n h)
 
 -- one more digit
 pub digit_more : (bytes : List ℕ) (i value : ℕ) → i < length bytes → AllDigits 10 (take i bytes)
@@ -177,8 +144,17 @@ module _ (bytes rest : List ℕ) (value most : ℕ) (so : DigitsSoFar bytes rest
   pub all_digits : most < 2 ^ 64 → (1 < so.count → get_or bytes 0 0 ≢ 48) → EndsNumber rest
       → ((value ≤ most) × (value < 2 ^ 64) × EndsNumber rest) × (bytes ≡ decimal value ++ rest)
   all_digits fits plain ends =
-      let same = sym so.left in
-      let found =
-      number_found bytes so.count value most so.some so.within so.digits so.value_is so.small fits
-      plain (rw so.left at ends) in
-      rw (slice_tail bytes so.count, same) at found
+      let front = take so.count bytes in
+      let size : length front ≡ so.count = length-take-le so.count bytes so.within in
+      let alone : get_or front 0 0 ≡ 48 → length front ≡ 1 =
+      λ naught. elim (cases_lt 1 so.count) [
+        | inl more ↦ absurd (plain more (sym (get_or-take so.count bytes 0 0 so.some) ∙ naught))
+        | inr one ↦ omega (arith, size, so.some, one)
+      ] in
+      let small : value < 2 ^ 64 = omega (arith, so.small, fits) in
+      let text : decimal (digits_value 10 front) ≡ front =
+      decimal-digits_value own front so.digits (omega (arith, size, so.some)) alone
+      (rw so.value_is at small) in (
+        (so.small, small, ends),
+        rw (so.value_is, text, so.left) (sym (take-append-drop so.count bytes)),
+      )

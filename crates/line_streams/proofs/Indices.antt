@@ -1,15 +1,14 @@
 -- What stands before the first of a byte.
-use Rattle.std.proofs.Common.{◌≡◌, ◌≢◌, ◌==◌, ℕ, ◌+◌, ◌-◌, ◌<◌, ◌≤◌, Bool, true, false, cond, List, [], ◌∷◌, ◌++◌, length, get_or, take, drop, Option, Some, None, arith, add-one, drop-cons, refl, sym, ◌∙◌, ap}
+use Rattle.std.proofs.Common.{◌≡◌, ◌≢◌, ◌==◌, ℕ, ◌+◌, ◌-◌, ◌<◌, ◌≤◌, Bool, List, [], ◌∷◌, ◌++◌, length, get_or, take, drop, Option, Some, None, arith, add-one, drop-cons, refl, sym, ◌∙◌, ap}
 use Rattle.std.specs.List.{position, position_or_len, before_first}
 use Rattle.memchr.specs.Find.{IsFirstByte, is_byte}
 use Rattle.std.proofs.lemmas.Bool.{eqb-false, eqb-true, false_from_ne_true}
 use Rattle.std.proofs.lemmas.Bool.Decides.{nat_tests}
-use Rattle.std.proofs.lemmas.List.{length-take-le, take-append-drop, get_or-take, take_all}
+use Rattle.std.proofs.lemmas.List.{length-take-le, take-append-drop, get_or-take, take_all, take_rest}
 use Rattle.std.proofs.lemmas.List.Elements.{All-from_get_or, All-head, All-tail}
 use Rattle.std.proofs.lemmas.List.Quantifiers.{position-Some}
 use Rattle.std.proofs.lemmas.List.Sums.{fails_before_first, position_or_len_is}
 use Rattle.line_streams.specs.Spelling.{HasNo}
-use Rattle.line_streams.proofs.Fronts.{slice_tail}
 
 -- the index that a search for the byte finds
 pub found_first : (byte : ℕ) (xs : List ℕ) (found : Option ℕ)
@@ -61,7 +60,7 @@ parts_at byte xs i e =
       All-from_get_or (λ b. b ≢ byte) (take i xs) 0
           (λ k within. let below : k < i = omega (arith, long, within) in
           rw (get_or-take i xs k 0 below) (eqb-false (get_or xs k 0) byte (at.2 k below))),
-      rw (slice_tail xs (i + 1)) (sym (take-append-drop i xs)
+      rw (take_rest xs (i + 1)) (sym (take-append-drop i xs)
           ∙ ap (λ (l : List ℕ). take i xs ++ l) next),
     )
 

@@ -1,6 +1,4 @@
 pub mod Written
 pub mod Fronts
-pub mod Words
-pub mod Lists
+pub mod Phrases
 pub mod Indices
-pub mod Outcomes

@@ -10,7 +10,7 @@ use Rattle.service_descriptions.specs.declared.replay.machine.command.Cleanup.Th
 use Rattle.service_descriptions.specs.declared.replay.machine.command.Command.{Command}
 use Rattle.service_descriptions.specs.declared.replay.machine.command.Command.TheVariants as command
 use Rattle.service_descriptions.specs.Lines.{HasLine, line_of}
-use Rattle.service_descriptions.proofs.OneReading.{one_service}
+use Rattle.service_descriptions.proofs.Scripts.{one_service}
 use Rattle.log_lines.specs.Commands.{Begun, HasText, NamedCommand, command_text}
 use Rattle.log_lines.specs.Commands.NamedCommand.{numbered, deregister, release}
 use Rattle.log_lines.specs.Laws.{IsAlike, LinesAreReadOneWay, NotesAreNoLines}

@@ -5,7 +5,7 @@ use Rattle.iox2_container.specs.declared.container.role.Role.{Role}
 use Rattle.iox2_container.specs.declared.container.role.Role.TheVariants as role
 use Rattle.line_streams.specs.declared.phrase.LineEnd.TheVariants.{Bytes}
 use Rattle.line_streams.specs.Numerals.{cons_same}
-use Rattle.service_descriptions.specs.declared.replay.lines.service_line.ServiceLine.{ServiceLine}
+use Rattle.service_descriptions.specs.declared.replay.lines.line.ServiceLine.{ServiceLine}
 use Rattle.service_descriptions.specs.declared.replay.machine.command.Command.{Command}
 use Rattle.service_descriptions.specs.Lines.{IsLine as IsCommand, line_of, line_text as command_line, role_word}
 use Rattle.service_descriptions.specs.Script.{IsServiceLine, service_line}

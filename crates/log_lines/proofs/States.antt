@@ -10,8 +10,8 @@ use Rattle.line_streams.specs.Spelling.{EndsNumber, IsDigit}
 use Rattle.service_descriptions.specs.declared.replay.machine.command.Command.{Command}
 use Rattle.service_descriptions.specs.declared.replay.machine.command.Command.TheVariants as command
 use Rattle.service_descriptions.specs.Lines.{HasLine, SameCommand, line_of, role_word}
-use Rattle.service_descriptions.specs.OneWay.{role_one}
-use Rattle.service_descriptions.proofs.OneReading.{one_command}
+use Rattle.service_descriptions.specs.Phrases.{role_one}
+use Rattle.service_descriptions.proofs.Scripts.{one_command}
 use Rattle.log_lines.specs.States.{AddsEntry, HasEntry, HasNodes, HasPorts, HasState, State, entry_text, locked_word, nodes_text, ports_text, state_text}
 use Rattle.log_lines.specs.States.State.{nodes, ports, entry}
 

@@ -1,6 +1,6 @@
 -- What holds of all lines.
 use Rattle.std.specs.Prelude.{◌≡◌, ℕ, List, IsTrue}
-use Rattle.service_descriptions.specs.declared.replay.lines.service_line.ServiceLine.{ServiceLine}
+use Rattle.service_descriptions.specs.declared.replay.lines.line.ServiceLine.{ServiceLine}
 use Rattle.service_descriptions.specs.Script.{service_line}
 use Rattle.log_lines.specs.declared.form.LogForm.{LogForm}
 use Rattle.log_lines.specs.Commands.{Begun, HasBegun, begun_text}

@@ -7,8 +7,7 @@ use Rattle.histories.proofs.Indices.{only}
 use Rattle.iox2_container.proofs.Growing.{Grows}
 use Rattle.service_descriptions.specs.declared.replay.machine.command.Command.TheVariants as command
 use Rattle.service_descriptions.specs.declared.replay.machine.reply.Reply.TheVariants as reply
-use Rattle.service_descriptions.proofs.Moves.{moves}
-use Rattle.service_descriptions.proofs.Serving.{keeps}
+use Rattle.service_descriptions.proofs.Serving.{moves, keeps}
 use Rattle.service_conformance.proofs.Following.{attach_may, register_may}
 use Rattle.service_conformance.proofs.Quiet.{run_quiet, serves_quiet, service_quiet}
 use Rattle.service_conformance.proofs.Seen.{is_handle, no_handle_text}

@@ -1,12 +1,7 @@
 pub mod Names
-pub mod Appending
+pub mod ReplyLines
 pub mod Keeping
 pub mod Lines
-pub mod Listings
-pub mod Services
-pub mod Moves
-pub mod OneReading
-pub mod Runs
-pub mod Scripts
 pub mod Serving
+pub mod Scripts
 pub mod SameReply

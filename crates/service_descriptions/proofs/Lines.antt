@@ -1,8 +1,8 @@
--- Command lines, as their phrases spell them.
+-- The lines of scripts, as their phrases spell them.
 use Rattle.std.proofs.Common.{◌≡◌, ◌≢◌, ℕ, ◌<◌, ◌^◌, List, [], ◌∷◌, ◌++◌, Some, None, Vec, arith, refl, sym, ◌∙◌, ap, subst, append_assoc, codes, map, get_or}
 use Rattle.std.specs.Prelude.{◌==◌, if◌then◌else◌}
 use Rattle.std.specs.declared.alloc.Global.{Global}
-use Rattle.service_descriptions.proofs.Names.{AllByRecursion, join_with_byte, PortDetails, Newline, Bytes, Nowhere, reads_after, reads_then, number_one, line_end_one, sequence_one, after_one, Spelling, OneWay, Reads, Lacks, EndsNumber, OthersFit, others_text, number, line_end, sequence, after, ByPort, Command, id_text, IsId, line_of, line_text, HasLine, IsLine, SameCommand, skip_words, dead_one, node_id_one, role_one, port_one, id_phrase, node_id_phrase, dead_phrase, three_phrase, spelled_of}
+use Rattle.service_descriptions.proofs.Names.{AllByRecursion, join_with_byte, PortDetails, Newline, Bytes, Nowhere, reads_after, reads_then, number_one, line_end_one, sequence_one, after_one, Spelling, OneWay, Reads, Lacks, EndsNumber, OthersFit, others_text, number, line_end, sequence, after, ByPort, Command, id_text, IsId, line_of, line_text, HasLine, IsLine, SameCommand, skip_words, dead_one, node_id_one, role_one, port_one, id_phrase, node_id_phrase, dead_phrase, three_phrase, spelled_of, PatternKind, ServiceLine, pattern_one, service_line, IsServiceLine, service_front, pattern_phrase}
 use Rattle.line_streams.specs.declared.phrase.LineEnd.{LineEnd}
 use Rattle.line_streams.specs.Numerals.{cons_same}
 use Rattle.line_streams.specs.Spelling.{listed}
@@ -280,3 +280,67 @@ same_command end (c, x) (d, y) p q e =
     let same = sym (is_line_text end c x p.0) ∙ e ∙ is_line_text end d y q.0 in
     same_kind end c d x y p.0 q.0 (one_kind (kind_of c) (kind_of d) _ _ same) (fit end c x p)
     (fit end d y q) same
+
+-- the phrase of a service line
+abbrev Four : Type 0
+Four = ℕ × (ℕ × (ℕ × (ℕ × Unit {0})))
+
+abbrev spaced : {A : Type 0} → Spelling A → Spelling (ℕ × A)
+spaced P = after (codes " ") (sequence any_number P)
+
+abbrev pub service : Spelling (PatternKind × Four)
+service =
+    after (codes "service ") (sequence pattern_phrase (sequence any_number
+    (spaced (spaced (spaced (line_end Newline))))))
+
+service_one : OneWay service
+service_one =
+    let space = codes " " in
+    after_one (codes "service ") (sequence_one pattern_one (sequence_one any_one
+    (after_one space (sequence_one any_one (after_one space (sequence_one any_one
+    (after_one space (sequence_one any_one (line_end_one Newline)))))))))
+
+-- what it sees of a line
+abbrev pub service_parts : ServiceLine → PatternKind × Four
+service_parts l = (l.pattern, (l.number, (l.max_nodes, (l.first, (l.second, tt)))))
+
+pub is_service_text : (l : ServiceLine) (rest : List ℕ)
+    → service_front (l, rest) ≡ service.text (service_parts l, rest)
+is_service_text l rest = ap (λ (xs : List ℕ). codes "service " ++ xs) (simp append_assoc)
+
+pub service_fits : (l : ServiceLine) (rest : List ℕ) → IsServiceLine l
+    → service.Fits (service_parts l, rest)
+service_fits l rest p =
+    let space : EndsNumber (32 ∷ rest) = λ digit. omega arith in
+    let newline : EndsNumber (10 ∷ rest) = λ digit. omega arith in (
+      tt,
+      (
+        any_fits l.number (32 ∷ rest) p.number space,
+        (
+          any_fits l.max_nodes (32 ∷ rest) p.max_nodes space,
+          (
+            any_fits l.first (32 ∷ rest) p.first space,
+            (any_fits l.second (10 ∷ rest) p.second newline, tt),
+          ),
+        ),
+      ),
+    )
+
+abbrev made : PatternKind × Four → ServiceLine
+made p = record {
+  pattern = p.0;
+  number = p.1.0;
+  max_nodes = p.1.1.0;
+  first = p.1.1.1.0;
+  second = p.1.1.1.1.0;
+}
+
+-- services at the front of one text are the same, and so is what follows them
+pub same_service : (l m : ServiceLine) (x y : List ℕ) → IsServiceLine l → IsServiceLine m
+    → service_line l ++ 10 ∷ x ≡ service_line m ++ 10 ∷ y → (l ≡ m) × (x ≡ y)
+same_service l m x y p q e =
+    let same =
+    service_one.same (service_parts l, x) (service_parts m, y) (service_fits l x p)
+    (service_fits m y q)
+    (sym (is_service_text l x) ∙ e ∙ is_service_text m y) in
+    (ap made same.0, same.1)

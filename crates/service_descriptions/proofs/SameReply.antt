@@ -9,7 +9,7 @@ use Rattle.iox2_texts.specs.declared.attribute.verifier.AttributeVerificationErr
 use Rattle.iox2_ids.specs.contracts.identifiers.unique_id.UniqueNodeIdPartialEq.TheImpl as node
 use Rattle.iox2_config.proofs.Equality.{EqualityTest, decided, numbers, pairs, structs}
 use Rattle.iox2_config.specs.SampleLayoutParts.{SampleLayoutParts}
-use Rattle.iox2_config.specs.contracts.types.sample_layout.SampleLayoutPartialEq.TheImpl as room
+use Rattle.iox2_config.specs.contracts.types.layout.SampleLayoutPartialEq.TheImpl as room
 use Rattle.iox2_container.specs.contracts.container.handle.ContainerHandlePartialEq.TheImpl as handle
 use Rattle.iox2_container.specs.contracts.container.role.RolePartialEq.TheImpl as role
 use Rattle.iox2_dynamic.specs.contracts.dynamic_config.port_details.PortDetailsPartialEq.TheImpl as port

@@ -8,7 +8,6 @@ pub mod Listings
 pub mod Lines
 pub mod Replies
 pub mod Script
-pub mod Streams
 -- Promises of no single call: what follows from those definitions.
 pub mod Laws
 -- Inner facts: the names that these files share, how private fields make a state, and what answers
@@ -18,4 +17,3 @@ pub mod Fields
 pub mod LineAnswers
 -- The phrases of the lines, and that no two values of one have one text.
 pub mod Phrases
-pub mod OneWay

@@ -2,8 +2,8 @@
 use Rattle.std.specs.Prelude.{◌≡◌, ℕ, Bool, true, false, List, ◌++◌, Option, None, Result, Ok, OnOk, OnErr, length, take}
 use Rattle.service_descriptions.specs.Prelude.{flat_map, ContainerState, Handle, listed, PortDetails, Ports, Service, Description, Command, Reply}
 use Rattle.std.specs.declared.alloc.AllocError.{AllocError}
-use Rattle.iox2_texts.specs.declared.bounded.callback_progression.CallbackProgression.{CallbackProgression}
-use Rattle.iox2_texts.specs.declared.bounded.callback_progression.CallbackProgression.TheVariants.{Continue, Stop}
+use Rattle.iox2_texts.specs.declared.bounded.CallbackProgression.{CallbackProgression}
+use Rattle.iox2_texts.specs.declared.bounded.CallbackProgression.TheVariants.{Continue, Stop}
 use Rattle.service_descriptions.specs.declared.replay.machine.command.Command.TheVariants as command
 use Rattle.service_descriptions.specs.declared.replay.machine.reply.LineAnswer.{LineAnswer}
 use Rattle.service_descriptions.specs.declared.replay.machine.reply.LineAnswer.TheVariants as answer

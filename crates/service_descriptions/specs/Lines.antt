@@ -5,8 +5,8 @@ use Rattle.iox2_config.specs.declared.config.choices.DataSegmentType.TheVariants
 use Rattle.iox2_container.specs.declared.container.role.Role.TheVariants as role
 use Rattle.iox2_dynamic.specs.declared.dynamic_config.port_details.PortDetails.TheVariants as of
 use Rattle.service_descriptions.specs.declared.replay.machine.command.Command.TheVariants as command
-use Rattle.service_descriptions.specs.declared.replay.machine.port.Parts.{Parts}
-use Rattle.service_descriptions.specs.declared.replay.machine.port.ScriptPort.{ScriptPort}
+use Rattle.service_descriptions.specs.declared.replay.machine.command.Parts.{Parts}
+use Rattle.service_descriptions.specs.declared.replay.machine.command.ScriptPort.{ScriptPort}
 use Rattle.service_descriptions.specs.declared.replay.machine.command.LineCommand.{LineCommand}
 use Rattle.service_descriptions.specs.declared.replay.machine.command.LineCommand.TheVariants as spelled
 use Rattle.line_streams.specs.declared.phrase.LineEnd.{LineEnd}

@@ -14,7 +14,7 @@ pub use Rattle.iox2_static.specs.Description.{Description}
 pub use Rattle.iox2_texts.specs.VerifyErrors.{Verifies, verification_error_text}
 pub use Rattle.line_streams.specs.Spelling.{EndsNumber, OneWay, Reads, Spelling, after, line_end, number, sequence}
 pub use Rattle.service_descriptions.specs.declared.replay.lines.script.ScriptError.{ScriptError}
-pub use Rattle.service_descriptions.specs.declared.replay.lines.service_line.ServiceLine.{ServiceLine}
+pub use Rattle.service_descriptions.specs.declared.replay.lines.line.ServiceLine.{ServiceLine}
 pub use Rattle.service_descriptions.specs.declared.replay.machine.command.Cleanup.TheVariants.{ByOrder, ByPort}
 pub use Rattle.service_descriptions.specs.declared.replay.machine.command.Command.{Command}
 pub use Rattle.service_descriptions.specs.declared.replay.machine.reply.Reply.{Reply}

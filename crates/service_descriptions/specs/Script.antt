@@ -1,10 +1,11 @@
--- What a script is, and what it gives.
+-- What a script is and gives, and what the streams of the program get.
 use Rattle.std.specs.Prelude.{◌≡◌, ◌≢◌, ℕ, ◌+◌, ◌^◌, ◌<◌, List, [], ◌∷◌, ◌++◌, codes, Option, Some, None, Result, Ok, Err, ◌⊎◌, length}
 use Rattle.service_descriptions.specs.Prelude.{decimal, flat_map, join_with_byte, AllByRecursion, pattern_word, Command, Reply, ScriptError, ServiceLine}
 use Rattle.service_descriptions.specs.declared.replay.lines.script.ScriptError.TheVariants as error
 use Rattle.service_descriptions.specs.Lines.{line_of, HasLine}
 use Rattle.service_descriptions.specs.Replies.{reply_line}
 use Rattle.service_descriptions.specs.Steps.{State, ServiceStep, new_state, Run}
+use Rattle.std.specs.Io.KnownBytes.{Appends}
 
 -- the words of the first line
 abbrev pub service_words : ServiceLine → List (List ℕ)
@@ -95,3 +96,25 @@ RanLine old lines before (Some rest) new after =
 RanLine old lines before None new after =
     ((command : Command) (rest : List ℕ) → HasLine command → lines ≢ line_of command ++ 10 ∷ rest)
     × (new ≡ old) × (after ≡ before)
+
+-- what the errors get at the end of a script
+abbrev pub error_text : Result (Unit {0}) ScriptError → List ℕ
+error_text (Ok done) = []
+error_text (Err (error.BadLine k)) = codes "bad line " ++ decimal k ++ 10 ∷ []
+error_text (Err (error.NoMemory why)) = codes "no memory" ++ 10 ∷ []
+
+-- the status at the end of a script
+abbrev pub status_of : Result (Unit {0}) ScriptError → ℕ
+status_of (Ok done) = 0
+status_of (Err (error.BadLine k)) = 1
+status_of (Err (error.NoMemory why)) = 2
+
+-- the script ended in one way: that is the status, and the writers got what fits it
+pub record Reported (script : List ℕ) (status : ℕ)
+    (out_old out_new err_old err_new : Option (List ℕ)) : Type 0 where
+  pub end : Result (Unit {0}) ScriptError
+  pub text : List ℕ
+  pub ended : Scripted script end text
+  pub reported : status ≡ status_of end
+  pub output : Appends out_old out_new text
+  pub errors : Appends err_old err_new (error_text end)

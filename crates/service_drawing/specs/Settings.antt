@@ -8,9 +8,9 @@ use Rattle.iox2_config.specs.declared.config.Config.{Config}
 use Rattle.iox2_config.specs.declared.config.defaults.Defaults.{Defaults}
 use Rattle.iox2_config.specs.declared.config.choices.BackpressureStrategy.TheVariants.{RetryUntilDelivered, DiscardData}
 use Rattle.iox2_config.specs.declared.config.choices.AllocationStrategy.TheVariants.{BestFit, PowerOfTwo, Static}
-use Rattle.iox2_config.specs.declared.config.event.Event.{Event}
-use Rattle.iox2_config.specs.declared.config.publish_subscribe.PublishSubscribe.{PublishSubscribe}
-use Rattle.iox2_config.specs.declared.config.request_response.RequestResonse.{RequestResonse}
+use Rattle.iox2_config.specs.declared.config.defaults.Event.{Event}
+use Rattle.iox2_config.specs.declared.config.defaults.PublishSubscribe.{PublishSubscribe}
+use Rattle.iox2_config.specs.declared.config.defaults.RequestResonse.{RequestResonse}
 use Rattle.iox2_config.specs.declared.hash.input.PatternKind.{PatternKind}
 use Rattle.iox2_config.specs.declared.hash.input.PatternKind.TheVariants as kind
 use Rattle.iox2_config_file.specs.Settings.{Setting, publish_subscribe_settings, event_settings, request_response_settings, blackboard_settings}

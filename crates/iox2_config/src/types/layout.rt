@@ -5,11 +5,65 @@ ghost use Rattle.iox2_texts.specs.Multiple.{least_multiple};
 ghost use Rattle.iox2_config.specs.Blocks.{HoldsEverywhere};
 ghost use Rattle.iox2_config.specs.Layout.{user_header_offset, payload_offset, sample_size, HaveAlignments};
 ghost use Rattle.iox2_config.specs.Layout.{HasPlaces, places_in};
+ghost use Rattle.iox2_config.specs.SampleLayoutParts.{IsSampleLayout};
 
 use super::message_details::MessageTypeDetails;
-use super::places::Places;
-use super::sample_layout::SampleLayout;
 use iox2_texts::bounded::align;
+use std::marker::Model;
+
+/// The positions of two parts of a message, as offsets or addresses like that of its header.
+#[derive(Clone, Copy, Debug, PartialEq, Eq)]
+pub struct Places {
+    /// Of the user header.
+    pub user_header: usize,
+    /// Of the payload.
+    pub payload: usize,
+}
+
+/// The layout of a message: size in bytes, and alignment.
+#[derive(Clone, Copy, Debug, PartialEq, Eq)]
+pub struct SampleLayout {
+    size: usize,
+    alignment: usize,
+}
+
+impl Model for SampleLayout {
+    ghost use Rattle.iox2_config.specs.SampleLayoutParts.{SampleLayoutParts, IsSampleLayout};
+
+    ghost Value = { SampleLayoutParts };
+
+    ghost view = { λ layout. record { size = layout.size; alignment = layout.alignment } };
+
+    ghost invariant = { λ layout. IsSampleLayout layout.size layout.alignment };
+
+    ghost inverse = { λ parts. record { size = parts.size; alignment = parts.alignment } };
+}
+
+impl SampleLayout {
+    /// The layout of this many bytes with this alignment.
+    fn new(size: usize, alignment: usize) -> Self
+        requires { IsSampleLayout size alignment }
+        ensures { result ≡ record { size = size; alignment = alignment } }
+    {
+        SampleLayout { size, alignment }
+    }
+
+    /// How many bytes the message needs, at most 2^63 - 1.
+    pub fn size(&self) -> usize
+        ensures value { result ≡ self.now.size }
+        ensures bound { result < 2 ^ 63 }
+    {
+        self.size
+    }
+
+    /// The alignment of the message, a power of two.
+    pub fn align(&self) -> usize
+        ensures value { result ≡ self.now.alignment }
+        ensures power { IsTrue (is_power_of_two result) }
+    {
+        self.alignment
+    }
+}
 
 /// The greatest size of a block of memory, 2^63 - 1.
 const GREATEST_SIZE: usize = isize::MAX as usize;
@@ -115,7 +169,7 @@ impl MessageTypeDetails {
 }
 
 /// As `align` to a power of two, or `None` where the multiple does not fit.
-#[tactic(auto, using(crate::proofs::Rounding::power_positive))]
+#[tactic(auto, using(crate::proofs::Rounding::power_positive, crate::proofs::Rounding::rounded, crate::proofs::Rounding::not_rounded))]
 fn checked_align(value: usize, alignment: usize) -> Option<usize>
     requires { IsTrue (is_power_of_two alignment) }
     ensures some { IfSome result (λ y. y ≡ least_multiple value alignment) }

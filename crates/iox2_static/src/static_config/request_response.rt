@@ -1,7 +1,7 @@
 //! Static configurations of request-response services.
 ghost use Rattle.std.specs.Prelude.{◌≡◌, ◌↔◌, IsTrue};
 
-use super::chunks::amount_of_chunks;
+use super::amount_of_chunks;
 use super::setting::{Requirement, Setting, are_met, first_unmet};
 use iox2_config::config::{Config, RequestResonse};
 use iox2_config::types::MessageTypeDetails;

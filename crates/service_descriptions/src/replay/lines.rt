@@ -3,9 +3,7 @@
 mod line;
 mod reply_line;
 mod script;
-mod service_line;
 
-pub use line::{RoleName, command_before, read_line};
+pub use line::{RoleName, ServiceLine, command_before, read_line, service_before};
 pub use reply_line::write_reply;
 pub use script::{ScriptError, run_script, run_streams};
-pub use service_line::{ServiceLine, service_before};

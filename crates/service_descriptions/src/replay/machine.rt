@@ -3,15 +3,12 @@
 mod cleanup;
 mod command;
 mod description;
-mod kept;
-mod port;
 mod reply;
 mod session;
 mod state;
 
-pub use command::{Cleanup, Command, LineCommand, MessagePart};
-pub(crate) use port::Parts;
-pub use port::ScriptPort;
+pub(crate) use command::Parts;
+pub use command::{Cleanup, Command, LineCommand, MessagePart, ScriptPort};
 pub use reply::Reply;
 pub(crate) use reply::{LineAnswer, LineReply};
 pub(crate) use session::Session;

@@ -1,5 +1,5 @@
 use Rattle.std.proofs.Common.{arith, sym, ◌∙◌}
-use Rattle.line_streams.proofs.Words.{same_front, follows_word}
+use Rattle.line_streams.proofs.Phrases.{same_front, follows_word}
 use Rattle.line_streams.proofs.phrase.after_word.Goals as goal
 
 pub returns-clause-some : goal.returns-clause-some

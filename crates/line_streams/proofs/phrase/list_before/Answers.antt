@@ -1,7 +1,7 @@
 use Rattle.std.proofs.Common.{◌≡◌, ◌∷◌, ◌++◌, [], ℕ, map, length, sym, ◌∙◌, ap, subst, arith, rules, length-append}
 use Rattle.std.proofs.lemmas.List.{map-append}
 use Rattle.line_streams.specs.Spelling.{OneWay}
-use Rattle.line_streams.proofs.Lists.{GoesOn, goes_on, goes_on_more, goes_nowhere}
+use Rattle.line_streams.proofs.Phrases.{GoesOn, goes_on, goes_on_more, goes_nowhere}
 use Rattle.line_streams.proofs.phrase.list_before.Goals as goal
 
 pub items-init : goal.items-init

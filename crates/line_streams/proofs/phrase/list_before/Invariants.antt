@@ -1,5 +1,5 @@
 use Rattle.std.proofs.Common.{◌≤◌, map, length}
-use Rattle.line_streams.proofs.Lists.{GoesOn}
+use Rattle.line_streams.proofs.Phrases.{GoesOn}
 use Rattle.line_streams.proofs.phrase.list_before.Given as goal
 
 abbrev pub invariant-items : goal.invariant-items

@@ -1,4 +1,4 @@
-use Rattle.line_streams.proofs.Outcomes.{ran_where_written}
+use Rattle.line_streams.proofs.Written.{ran_where_written}
 use Rattle.line_streams.proofs.streams.run_filter.Goals as goal
 
 pub returns-clause-ran : goal.returns-clause-ran

@@ -1,5 +1,5 @@
 use Rattle.std.proofs.Common.{[], ◌∷◌, ◌++◌, ◌∙◌, ◌≡◌, List, ℕ, ap, arith, length, sym}
-use Rattle.service_descriptions.proofs.Services.{same_service}
+use Rattle.service_descriptions.proofs.Lines.{same_service}
 use Rattle.log_lines.proofs.line.service_of.Goals as goal
 
 pub returns-in_default : goal.returns-in_default

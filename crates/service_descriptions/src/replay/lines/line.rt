@@ -1,19 +1,92 @@
-//! Command lines, and the ids, roles and ports in them.
+//! The lines of a script: the first one, which makes its service, and command lines.
 ghost use Rattle.std.specs.Prelude.{◌++◌, ℕ, IfOk, codes};
 ghost use Rattle.std.specs.Option.{option_map};
+ghost use Rattle.iox2_config.specs.declared.hash.input.PatternKind.{PatternKind as Kind};
 ghost use Rattle.iox2_container.specs.declared.container.role.Role.{Role as OneRole};
 ghost use Rattle.iox2_dynamic.specs.declared.dynamic_config.port_details.PortDetails.{PortDetails as Details};
 ghost use Rattle.line_streams.specs.Spelling.{Reads};
 ghost use Rattle.service_descriptions.specs.Lines.{command_of, line_of, HasLine, IsLine, line_text};
 ghost use Rattle.service_descriptions.specs.Lines.{plain_of, value_of};
-ghost use Rattle.service_descriptions.specs.OneWay.{id_one, node_id_one, port_one, role_one};
-ghost use Rattle.service_descriptions.specs.Phrases.{id_phrase, node_id_phrase, port_phrase, role_phrase};
+ghost use Rattle.service_descriptions.specs.Phrases.{id_one, node_id_one, pattern_one, port_one};
+ghost use Rattle.service_descriptions.specs.Phrases.{role_one};
+ghost use Rattle.service_descriptions.specs.Phrases.{id_phrase, node_id_phrase, pattern_phrase};
+ghost use Rattle.service_descriptions.specs.Phrases.{port_phrase, role_phrase};
+ghost use Rattle.service_descriptions.specs.Script.{IsServiceFront, service_front};
 
 use crate::replay::machine::{Command, LineCommand, Parts, ScriptPort};
+use iox2_config::hash::PatternKind;
 use iox2_container::container::Role;
 use iox2_ids::identifiers::{UniqueNodeId, UniqueReaderId};
 use line_streams::{After, LineEnd, Number, Phrase, Then, after_word, list_before};
 use std::alloc::{AllocError, Global};
+
+/// A number of 64 bits.
+const NUMBER: Number = Number(u64::MAX);
+
+/// What the first line of a script says of its service.
+#[derive(Clone, Copy)]
+pub struct ServiceLine {
+    /// The pattern.
+    pub pattern: PatternKind,
+    /// The number of the service.
+    pub number: u64,
+    /// How many nodes may be registered at a time.
+    pub max_nodes: usize,
+    /// How many of the ports that are recovered first may be attached at a time.
+    pub first: usize,
+    /// How many of the other ports may be attached at a time.
+    pub second: usize,
+}
+
+/// The word for a pattern, and a space.
+#[derive(Clone, Copy)]
+struct PatternName;
+
+impl<'a> Phrase<'a> for PatternName {
+    type Value = PatternKind;
+
+    ghost Seen = { Kind };
+
+    ghost view = { λ kind. kind };
+
+    ghost spelling = { λ s. pattern_phrase };
+
+    fn read(&self, bytes: &'a [u8]) -> Option<(PatternKind, &'a [u8])> {
+        for kind in PatternKind::ALL {
+            if let Some(rest) = after_word(bytes, kind.word().as_bytes())
+                && let Some(rest) = after_word(rest, b" ")
+            {
+                return Some((kind, rest));
+            }
+        }
+        None
+    }
+
+    ghost one_way = { λ s. pattern_one };
+}
+
+/// The service line with its newline that begins these bytes, and what follows the newline.
+pub fn service_before(bytes: &[u8]) -> Option<(ServiceLine, &[u8])>
+    ensures { Reads IsServiceFront service_front
+        (option_map (λ found. (found.0, found.1.now)) result) bytes.now }
+{
+    let second = After(b" ", Then(NUMBER, LineEnd::Newline));
+    let first = After(b" ", Then(NUMBER, second));
+    let max_nodes = After(b" ", Then(NUMBER, first));
+    let service = After(b"service ", Then(PatternName, Then(NUMBER, max_nodes)));
+    let Some(((pattern, (number, (max_nodes, (first, (second, ()))))), rest)) = service.read(bytes)
+    else {
+        return None;
+    };
+    let service = ServiceLine {
+        pattern,
+        number,
+        max_nodes: max_nodes as usize,
+        first: first as usize,
+        second: second as usize,
+    };
+    Some((service, rest))
+}
 
 /// A part of an id.
 const PART: Number = Number(u32::MAX as u64);

@@ -37,7 +37,7 @@ fn write_word(word: &[u8], line: &mut [u8], end: usize) -> usize
     at
 }
 
-#[tactic(auto, using(crate::proofs::Appending::few_digits))]
+#[tactic(auto, using(crate::proofs::ReplyLines::few_digits))]
 /// Appends a line of a word and a number. The line is written from its end.
 fn append_number(word: &[u8], n: u64, out: &mut Vec<u8>) -> Result<(), AllocError>
     requires { length word.now ≤ 16 }
@@ -51,7 +51,7 @@ fn append_number(word: &[u8], n: u64, out: &mut Vec<u8>) -> Result<(), AllocErro
     out.extend_from_slice(&line[at..])
 }
 
-#[tactic(auto, using(crate::proofs::Appending::few_digits))]
+#[tactic(auto, using(crate::proofs::ReplyLines::few_digits))]
 /// Appends a line of a word and two numbers. The line is written from its end.
 #[inline(always)]
 fn append_numbers(word: &[u8], first: u64, second: u64, out: &mut Vec<u8>) -> Result<(), AllocError>

@@ -5,11 +5,10 @@ ghost use Rattle.std.specs.Option.{option_map};
 ghost use Rattle.line_streams.specs.Streams.{Fails, IsFlushed, ReadFails};
 ghost use Rattle.service_descriptions.specs.declared.replay.lines.script.ScriptError.TheVariants.{NoMemory};
 ghost use Rattle.service_descriptions.specs.Script.{LinesEnd, RanLine, Scripted};
-ghost use Rattle.service_descriptions.specs.Streams.{error_text, status_of, Reported};
+ghost use Rattle.service_descriptions.specs.Script.{error_text, status_of, Reported};
 
-use super::line::command_before;
+use super::line::{command_before, service_before};
 use super::reply_line::write_line;
-use super::service_line::service_before;
 use crate::replay::machine::Session;
 use iox2_dynamic::dynamic_config::MessagingPatternSettings;
 use itoa::Buffer;

@@ -1,14 +1,56 @@
 //! Recoveries with the decisions of a cleanup.
-ghost use Rattle.std.specs.Prelude.{◌≡◌};
+ghost use Rattle.std.specs.Prelude.{◌≡◌, ◌==◌};
+ghost use Rattle.std.specs.List.{list_any};
 ghost use Rattle.iox2_dynamic.specs.Service.{IsService};
 ghost use Rattle.iox2_ids.specs.PortId.{port_value};
 ghost use Rattle.service_descriptions.specs.Cleanups.{CleanedUp, action_for};
 ghost use Rattle.service_descriptions.specs.Cleanups.{first_action, other_actions};
 ghost use Rattle.service_descriptions.specs.declared.replay.machine.command.Cleanup.TheVariants as cleanups;
 
-use super::kept::Kept;
 use iox2_dynamic::dynamic_config::{DeregisterNodeState, DynamicConfig, PortCleanupAction};
 use iox2_ids::identifiers::{UniqueNodeId, UniquePortId};
+use std::marker::Model;
+
+/// The values of ids, of which it is known whether they are sorted.
+#[derive(Drop)]
+struct Kept<'a> {
+    values: &'a [u128],
+    is_sorted: bool,
+}
+
+impl<'a> Model for Kept<'a> {
+    ghost use Rattle.std.specs.Prelude.{ℕ, List, IsTrue};
+    ghost use Rattle.std.specs.List.Sorted.{IsNonDecreasing};
+
+    ghost Value = { List ℕ };
+
+    ghost view = { λ kept. kept.values.now };
+
+    ghost invariant = { λ kept. IsTrue kept.is_sorted → IsNonDecreasing kept.values.now };
+}
+
+impl Kept<'_> {
+    /// These values. Whether they are sorted is looked at once.
+    fn of(values: &[u128]) -> Kept<'_>
+        ensures { result ≡ values.now }
+    {
+        Kept {
+            values,
+            is_sorted: values.is_sorted(),
+        }
+    }
+
+    /// Whether this is one of the values: sorted ones are looked up by halves.
+    fn has(&self, value: u128) -> bool
+        ensures { result ≡ list_any (λ k. k == value) self.now }
+    {
+        if self.is_sorted {
+            self.values.binary_search(&value).is_ok()
+        } else {
+            self.values.contains(&value)
+        }
+    }
+}
 
 /// Removes a dead node, with decisions in order.
 #[inline(always)]

@@ -1,6 +1,6 @@
 use Rattle.std.proofs.Common.{◌≡◌, ◌∙◌, ◌++◌, ◌+◌, ◌-◌, ℕ, List, Some, codes, inr, ap, sym, subst, string_bytes, take, drop, length}
 use Rattle.memchr.specs.Find.{FindsNeedle}
-use Rattle.line_streams.proofs.Fronts.{slice_tail}
+use Rattle.std.proofs.lemmas.List.{take_rest}
 use Rattle.config_report.specs.Findings.{IsRefusal, Refusal}
 use Rattle.service_drawing.specs.Descriptions.{HasBlock}
 use Rattle.service_drawing.proofs.front.base_of.Goals as goal
@@ -13,20 +13,20 @@ block_to : (bytes more : List ℕ) (at : ℕ) → bytes ≡ codes "config\n" ++ 
     → FindsNeedle (from 6 bytes) (codes "\nend\n") 0 (Some at)
     → HasBlock (take (at + 1) (from 6 bytes)) (from (at + 5) (from 6 bytes)) bytes
 block_to bytes more at opens ends =
-    let same = slice_tail bytes 6 in
+    let same = take_rest bytes 6 in
     record {
       opens = (more, opens);
       at = at;
       ends = rw same at ends;
       file = ap (take (at + 1)) same;
-      left = slice_tail (from 6 bytes) (at + 5) ∙ ap (drop (at + 5)) same;
+      left = take_rest (from 6 bytes) (at + 5) ∙ ap (drop (at + 5)) same;
     }
 
 pub returns-in_default-find : goal.returns-in_default-find
 returns-in_default-find c = (
   (c.in-Some.field-0.now, c.in-Some.ensures.some),
   λ settings rest block.
-      let ends = rw (sym (slice_tail c.args.bytes.now 6)) at block.ends in
+      let ends = rw (sym (take_rest c.args.bytes.now 6)) at block.ends in
       c.in_default-find.ensures block.at ends.0.low ends.0.high ends.1,
 )
 

@@ -1,4 +1,4 @@
-use Rattle.line_streams.proofs.Words.{reads_after}
+use Rattle.line_streams.proofs.Phrases.{reads_after}
 use Rattle.line_streams.proofs.phrase.AfterPhrase.read.Goals as goal
 
 pub returns-clause-read : goal.returns-clause-read

@@ -1,4 +1,4 @@
-use Rattle.line_streams.proofs.Words.{Nowhere}
+use Rattle.line_streams.proofs.Phrases.{Nowhere}
 use Rattle.service_descriptions.proofs.Lines.{Kind, line, no_command}
 use Rattle.service_descriptions.proofs.Lines.Kind.{RegisterLine, DeregisterLine, NodesLine, AddLine, ReleaseLine, ListLine, CountLine, DeadLine}
 use Rattle.service_descriptions.proofs.replay.lines.line.command_before.Goals as goal

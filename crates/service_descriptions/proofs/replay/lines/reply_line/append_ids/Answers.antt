@@ -1,10 +1,6 @@
-use Rattle.std.proofs.Common.{◌≡◌, arith, rules, length, take, vec_len}
-use Rattle.std.proofs.lemmas.Grind.{common_steps}
-use Rattle.service_descriptions.proofs.Appending.{front_stays}
+use Rattle.std.proofs.Common.{◌≡◌, rules, length, take, vec_len}
+use Rattle.service_descriptions.proofs.ReplyLines.{front_stays}
 use Rattle.service_descriptions.proofs.replay.lines.reply_line.append_ids.Goals as goal
-
-pub loop-item-preserved : goal.loop-item-preserved
-loop-item-preserved g c = grind (arith, common_steps)
 
 pub returns-in_err-append_id-clause-err : goal.returns-in_err-append_id-clause-err
 returns-in_err-append_id-clause-err g c =

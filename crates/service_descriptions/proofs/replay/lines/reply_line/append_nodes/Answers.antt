@@ -1,5 +1,5 @@
 use Rattle.std.proofs.Common.{rules}
-use Rattle.service_descriptions.proofs.Listings.{nodes_line}
+use Rattle.service_descriptions.proofs.ReplyLines.{nodes_line}
 use Rattle.service_descriptions.proofs.replay.lines.reply_line.append_nodes.Goals as goal
 
 pub returns-clause-ok : goal.returns-clause-ok

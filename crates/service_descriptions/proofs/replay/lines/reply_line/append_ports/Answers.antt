@@ -1,5 +1,5 @@
 use Rattle.std.proofs.Common.{rules}
-use Rattle.service_descriptions.proofs.Listings.{lacks_line, ports_line}
+use Rattle.service_descriptions.proofs.ReplyLines.{lacks_line, ports_line}
 use Rattle.service_descriptions.proofs.replay.lines.reply_line.append_ports.Goals as goal
 
 pub returns-in_default-clause-ok : goal.returns-in_default-clause-ok

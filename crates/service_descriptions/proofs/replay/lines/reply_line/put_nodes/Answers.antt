@@ -1,6 +1,6 @@
 use Rattle.std.proofs.Common.{rules, sym}
 use Rattle.service_descriptions.proofs.Names.{listed, id_word}
-use Rattle.service_descriptions.proofs.Listings.{all_put}
+use Rattle.service_descriptions.proofs.ReplyLines.{all_put}
 use Rattle.service_descriptions.proofs.replay.lines.reply_line.put_nodes.Goals as goal
 
 pub returns : goal.returns

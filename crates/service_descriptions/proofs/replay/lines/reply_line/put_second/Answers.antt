@@ -1,5 +1,5 @@
 use Rattle.std.proofs.Common.{rules, sym}
-use Rattle.service_descriptions.proofs.Listings.{kind_put}
+use Rattle.service_descriptions.proofs.ReplyLines.{kind_put}
 use Rattle.service_descriptions.proofs.replay.lines.reply_line.put_second.Goals as goal
 
 pub returns : goal.returns

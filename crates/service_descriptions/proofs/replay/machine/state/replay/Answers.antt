@@ -1,6 +1,6 @@
 use Rattle.std.proofs.Common.{arith, subst}
 use Rattle.service_descriptions.specs.Steps.{ServiceStep}
-use Rattle.service_descriptions.proofs.Runs.{did_more}
+use Rattle.service_descriptions.proofs.Scripts.{did_more}
 use Rattle.service_descriptions.proofs.replay.machine.state.replay.Goals as goal
 
 pub loop-command-preserved : goal.loop-command-preserved

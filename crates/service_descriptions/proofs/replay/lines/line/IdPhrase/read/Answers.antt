@@ -1,5 +1,5 @@
 use Rattle.std.proofs.Common.{◌∙◌}
-use Rattle.service_descriptions.specs.OneWay.{parts_of, parts_fit, id_found, id_then}
+use Rattle.service_descriptions.specs.Phrases.{parts_of, parts_fit, id_found, id_then}
 use Rattle.service_descriptions.proofs.replay.lines.line.IdPhrase.read.Goals as goal
 
 pub returns-in_default-clause-read : goal.returns-in_default-clause-read
