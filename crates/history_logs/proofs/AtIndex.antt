@@ -1,6 +1,6 @@
 -- Elements at an index.
 use Rattle.history_logs.proofs.Words.{All, List, Some, [], ap, arith, get_or, get_or_from_slice_get, get_or_push, inl, inr, length, length_push, refl, same_Some, slice_get, slice_get-get_or, slice_get_read, slice_get_within, slice_set, subst, suc, sym, zero, ℕ, ◌++◌, ◌<◌, ◌∙◌, ◌∷◌, ◌≡◌, ◌⊎◌}
-use Rattle.iox2_container.proofs.ListEdits.{get_set_same}
+use Rattle.iox2_container.proofs.Lists.{get_set_same}
 
 pub get_same : {X : Type 0} (xs : List X) (i : ℕ) (a b : X) → slice_get xs i ≡ Some b
     → slice_get (slice_set xs i a) i ≡ Some a

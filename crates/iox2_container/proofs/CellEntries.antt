@@ -1,6 +1,26 @@
--- The entries that stand in cells.
-use Rattle.iox2_container.proofs.Prelude.{All, All-cons, All-nil, All-weaker, AllPairs, AllPairs-cons, Entry, InsertsOne, List, None, NoneFrom, Occupant, Option, Some, [], ap, arith, entries_from, get_or_from_slice_get, length, occupant, refl, replicate, set-get_or, set-set, slice_get, slice_get_within, slice_set, suc, sym, take, zero, ℕ, ◌+◌, ◌<◌, ◌∙◌, ◌∷◌, ◌≡◌, ◌≢◌, ◌≤◌}
-use Rattle.iox2_container.proofs.ListEdits.{get_set_same}
+-- What cells show, and the entries that stand in them.
+use Rattle.iox2_container.proofs.Prelude.{All, All-cons, All-nil, All-weaker, AllPairs, AllPairs-cons, Cell, Entry, Free, InsertsOne, List, None, NoneFrom, Occupant, Option, Some, [], ap, arith, entries_from, get_or_from_slice_get, length, map, map-set, occupant, refl, replicate, set-get_or, set-set, shown, slice_get, slice_get-map, slice_get_within, slice_set, suc, sym, take, zero, ℕ, ◌+◌, ◌<◌, ◌∙◌, ◌∷◌, ◌≡◌, ◌≢◌, ◌≤◌}
+use Rattle.iox2_container.proofs.Lists.{gains_later, get_set_same}
+
+nothing_shown : {T N : Type 0} (next : N) (n : ℕ)
+    → map (shown {T = T} {N = N}) (replicate n (Free next)) ≡ replicate n None
+nothing_shown next zero = refl
+nothing_shown {T} next (suc n) =
+    ap (λ (l : List (Option (Occupant T))). None ∷ l) (nothing_shown next n)
+
+-- free cells show nothing
+pub nothing_shown_yet : {T N : Type 0} (cells : List (Cell T N)) (next : N) (n : ℕ)
+    → cells ≡ replicate n (Free next) → map shown cells ≡ replicate n None
+nothing_shown_yet {T} {N} cells next n e = grind (arith, nothing_shown)
+
+-- what the cell of a slot shows
+pub shown_at : {T N : Type 0} (cells : List (Cell T N)) (slot : ℕ) (cell : Cell T N)
+    → slice_get cells slot ≡ Some cell
+    → ◌≡◌ {A = Option (Option (Occupant T))} (slice_get (map shown cells) slot) (Some (shown cell))
+shown_at {T} {N} cells slot cell e = grind (arith, slice_get-map)
+
+-- what a write to cells shows
+pub ruleset writes = (map-set)
 
 -- the entry is that of a cell
 pub record HasEntry {T : Type 0} (low : ℕ) (cells : List (Option (Occupant T)))
@@ -40,16 +60,6 @@ pub same_entry : {T : Type 0} (slot : ℕ) (o : Occupant T) (x : Entry T) → sl
     (Some (Some (occupant x.ticket x.details)))
     → (let y : Entry T = record { slot = slot; ticket = o.ticket; details = o.details } in y) ≡ x
 same_entry slot o x s h = (let e : o ≡ occupant x.ticket x.details = (cc) in rw (s, e) refl)
-
-pub gains_later : {T : Type 0} (old new : List (Entry T)) (x y : Entry T) → InsertsOne old new x
-    → InsertsOne (y ∷ old) (y ∷ new) x
-gains_later old new x y g =
-    record {
-      before = y ∷ g.before;
-      after = g.after;
-      old_is = ap (λ l. y ∷ l) g.old_is;
-      new_is = ap (λ l. y ∷ l) g.new_is;
-    }
 
 -- a write to a free cell
 pub gains_write : {T : Type 0} (low : ℕ) (cells : List (Option (Occupant T))) (i : ℕ) (x : Entry T)

@@ -1,8 +1,7 @@
 -- How many entries a test holds of.
 use Rattle.iox2_container.proofs.Prelude.{All, All-cons, All-nil, AreOthers, Bool, Entry, Found, InsertsOne, IsLastOf, IsNextOf, IsSome, IsTakenAt, List, MatchBool, MatchOption, None, NoneFrom, Occupant, Option, SlotIsOf, Some, [], add-one, ap, arith, candidates, cell_is_of, entries_from, false, if◌then◌else◌, inl, inr, is_of, leb_tells, length, lt-ltb, nat_lt, refl, same_Some, slice_get, staying, suc, sym, take, true, ℕ, ◌++◌, ◌+◌, ◌<◌, ◌∙◌, ◌∷◌, ◌≡◌, ◌≤◌, ◌⊎◌}
-use Rattle.iox2_container.proofs.CallsInTurn.{entries_split, taken_free, taken_more}
+use Rattle.iox2_container.proofs.Passes.{entries_split, taken_free, taken_more, over_others}
 use Rattle.iox2_container.proofs.CellEntries.{all_before}
-use Rattle.iox2_container.proofs.Sweeping.{over_others}
 
 -- how many entries the test holds of
 abbrev pub counted : {T : Type 0} → (T → Bool) → List (Entry T) → ℕ
@@ -28,10 +27,6 @@ counted-append : {T : Type 0} (p : T → Bool) (xs ys : List (Entry T))
     → counted p (xs ++ ys) ≡ counted p xs + counted p ys
 counted-append p [] ys = grind arith
 counted-append p (e ∷ xs) ys = grind (arith, counted-cons, counted-append p xs ys)
-
-pub few_more : (n m slot : ℕ) (b : Bool) → m ≡ n + one_if b → n ≤ slot → m ≤ slot + 1
-few_more n m slot true e h = omega arith
-few_more n m slot false e h = omega arith
 
 -- the slots of cells, by whether an entry of the node stands there
 module _ {T : Type 0} (node : T → ℕ) (id : ℕ) (cells : List (Option (Occupant T))) where

@@ -1,14 +1,102 @@
--- Two registries under the same calls.
-use Rattle.iox2_container.proofs.Prelude.{AddStep, All, AllZip-push, Bool, CallRun, CallStep, ContainerAddFailure, ContainerRemoveError, ContainerState, Enters, Entry, Err, Handle, HasRoom, IsFull, IsLocked, IsNew, IsPermutation, IsRegistry, Leaves, List, None, Ok, Option, OutOfSpace, RecoverStep, RegistryCall, RegistryReply, RegistryState, ReleaseMode, ReleaseState, RemoveGiven, RemoveStep, Result, SameKind, SameReply, Some, [], ap, arith, handle_given, handle_of, inl, inr, is_of, is_outside, length, length-map, length_permutation, listed, lock_after, not, refl, release_state, reply_of_add, reply_of_remove, sym, ℕ, ◌&&◌, ◌++◌, ◌+◌, ◌∙◌, ◌∷◌, ◌≡◌, ◌≢◌}
-use Rattle.iox2_container.specs.declared.container.comparison.calls.RegistryCall.TheVariants as Call
-use Rattle.iox2_container.specs.declared.container.comparison.calls.RegistryReply.TheVariants as Reply
-use Rattle.iox2_container.proofs.Collecting.{answers_by}
-use Rattle.iox2_container.proofs.Members.{of_all, gained}
-use Rattle.iox2_container.proofs.SameEntries.{AreAmong, same_members, nothing_within, within_after_add, within_after_remove, within_after_filter, passing}
-use Rattle.iox2_container.proofs.Leaving.{staying_by}
-use Rattle.iox2_container.proofs.Histories.{ticket_of}
+-- Two registries under the same calls: what each knows of the handles that it gave, how their
+-- replies agree, and runs of calls.
+use Rattle.iox2_container.proofs.Prelude.{AddStep, Adding, AgreesBy, All, AllZip, AllZip-push, Answered, Bool, CallRun, CallStep, ContainerAddFailure, ContainerRemoveError, ContainerState, Enters, Entry, EquallyMany, Err, Handle, HasRoom, IsFull, IsLocked, IsNew, IsPermutation, IsRegistry, IsTrue, Leaves, List, Made, None, Ok, Option, OutOfSpace, RecoverStep, RegistryCall, RegistryReply, RegistryState, ReleaseMode, ReleaseState, RemoveGiven, RemoveStep, Result, SameKind, SameReply, Some, [], ap, append-nil, append_assoc, arith, count_by, eq-eqb, eqb, eqb-true, get_or, handle_given, handle_in, handle_of, inl, inr, is_of, is_outside, length, length-append, length-map, length_permutation, list_all, listed, lock_after, not, refl, release_state, reply_of_add, reply_of_remove, rules, suc, sum_by-IsPermutation, sym, take, take_more, zero, ℕ, ⊤, ◌&&◌, ◌++◌, ◌+◌, ◌<◌, ◌↔◌, ◌∙◌, ◌∷◌, ◌≡◌, ◌≢◌}
+use Rattle.std.proofs.lemmas.List.Sums.{AllPass-from_list_all, list_all-from_AllPass}
+use Rattle.iox2_container.specs.declared.container.comparison.RegistryCall.TheVariants as Call
+use Rattle.iox2_container.specs.declared.container.comparison.RegistryReply.TheVariants as Reply
+use Rattle.iox2_container.proofs.Lists.{Among, of_all, gained}
+use Rattle.iox2_container.proofs.Histories.{Grows, edits, grows_same, grows_add, grows_remove, grows_recover, same_key, ticket_of}
+use Rattle.iox2_container.proofs.Callable.{answers_by}
+use Rattle.iox2_container.proofs.SameEntries.{AreAmong, same_members, nothing_within, within_after_add, within_after_remove, within_after_filter, passing, staying_by}
 use Rattle.iox2_container.proofs.Keeping.{new_is_registry}
-use Rattle.iox2_container.proofs.KnownHandles.{KnowAll, KnowBoth, Knows, all_on, both_at, given_by, grows_call, knows_added}
+
+-- a handle whose ticket was handed out is determined by its ticket
+pub record Knows {T : Type 0} (r : RegistryState T) (handle : Handle) : Type 0 where
+  pub ticket : handle.ticket < r.used
+  pub same : (x : Entry T) → Among x r.entries → x.ticket ≡ handle.ticket → handle ≡ handle_of r x
+
+knows_on : {T : Type 0} (old new : RegistryState T) (handle : Handle) → Grows old new
+    → Knows old handle → Knows new handle
+knows_on {T} old new handle m k = record {
+  ticket = omega (arith, k.ticket, m.used);
+  same = λ x a e. elim (m.entries x a) [
+    | inl o ↦ k.same x o e ∙ same_key old new x m
+    | inr n ↦ absurd (omega (arith, k.ticket, n, e))
+  ];
+}
+
+-- the handle in a reply
+abbrev pub given_by : {T : Type 0} → RegistryReply T → Option Handle
+given_by reply = handle_in (Some reply)
+
+-- the registry knows the handle that it gave
+pub knows_added : {T : Type 0} (old new : RegistryState T) (d : T) (key : Handle) → IsRegistry old
+    → AddStep old d (Ok key) new → Knows new key
+knows_added {T} old new d key w s =
+    let n : Enters old d key new = s.2 in
+    let k : key.ticket ≡ old.used = ap (λ (h : Handle). h.ticket) n.0 in
+    let m = edits old (Adding d (Ok key)) new s in
+    record {
+      ticket = omega (arith, k, ap (λ r. r.used) n.3);
+      same = λ x a e. elim (m.was x a) [
+        | inl o ↦ absurd (omega (
+          arith,
+          k,
+          e,
+          of_all (λ (z : Entry T). z.ticket < old.used) old.entries x w.tickets_used o.0,
+        ))
+        | inr q ↦ (let one : key ≡ handle_of old x = (cc) in one ∙ same_key old new x m.grows)
+      ];
+    }
+
+-- each call leaves as it was what `Grows` says
+module _ {T : Type 0} (node number : T → ℕ) (old : ContainerState T)
+    (earlier : List (RegistryReply T)) (reply : RegistryReply T) (new : ContainerState T) where
+  grows_given : (given : Option Handle) (mode : ReleaseMode) → RemoveGiven old given mode reply new
+      → Grows old.registry new.registry
+  grows_given None mode s = grows_same old.registry new.registry (ap (λ c. c.registry) s.1)
+  grows_given (Some handle) mode s = grind (arith, grows_remove)
+
+  pub grows_call : (call : RegistryCall T) → CallStep node number old earlier call reply new
+      → Grows old.registry new.registry
+  grows_call (Call.Add d) s = grows_add old.registry d s.result new.registry s.step.step
+  grows_call (Call.Remove k mode) s = grows_given (handle_given earlier k) mode s
+  grows_call (Call.Recover dead keys mode) s =
+      grows_recover (is_of node dead) s.step.step.marked old.registry mode s.result new.registry
+      s.step.step.recovers
+  grows_call Call.List s = grows_same old.registry new.registry (ap (λ c. c.registry) s.step.1)
+  grows_call Call.Len s = grows_same old.registry new.registry (ap (λ c. c.registry) s.1)
+
+-- two handles of one ticket, each known to its registry, or no handle
+abbrev pub KnowBoth : {T : Type 0} → RegistryState T → RegistryState T → Option Handle
+    → Option Handle → Type 0
+KnowBoth a b None None = ⊤
+KnowBoth a b (Some h) (Some k) = (h.ticket ≡ k.ticket) × Knows a h × Knows b k
+KnowBoth a b one other = ⊥
+
+-- the handles in two lists of replies, one after another
+abbrev pub KnowAll : {T : Type 0} → RegistryState T → RegistryState T → List (RegistryReply T)
+    → List (RegistryReply T) → Type 0
+KnowAll a b xs ys = AllZip (λ x y. KnowBoth a b (given_by x) (given_by y)) xs ys
+
+-- they are still known after a call
+module _ {T : Type 0} (a b a' b' : RegistryState T) (m : Grows a a') (n : Grows b b') where
+  both_on : (one other : Option Handle) → KnowBoth a b one other → KnowBoth a' b' one other
+  both_on None None k = tt
+  both_on (Some h) (Some i) k = (k.0, knows_on a a' h m k.1, knows_on b b' i n k.2)
+  both_on one other k = absurd k
+
+  pub all_on : (xs ys : List (RegistryReply T)) → KnowAll a b xs ys → KnowAll a' b' xs ys
+  all_on [] [] k = tt
+  all_on (x ∷ xs) (y ∷ ys) k = (both_on (given_by x) (given_by y) k.0, all_on xs ys k.1)
+  all_on xs ys k = absurd k
+
+pub both_at : {T : Type 0} (a b : RegistryState T) (xs ys : List (RegistryReply T)) (i : ℕ)
+    → KnowAll a b xs ys → KnowBoth a b (handle_given xs i) (handle_given ys i)
+both_at a b [] [] i k = tt
+both_at a b (x ∷ xs) (y ∷ ys) zero k = k.0
+both_at a b (x ∷ xs) (y ∷ ys) (suc i) k = both_at a b xs ys i k.1
+both_at a b xs ys i k = absurd k
 
 -- two registries that hold the same
 record SameContents {T : Type 0} (a b : RegistryState T) : Type 0 where
@@ -224,3 +312,88 @@ same_kind node number a b a' b' calls rs ss n c g p q =
       there = nothing_within a.registry.entries b.registry.entries n.0.0;
       back = nothing_within b.registry.entries a.registry.entries n.1.0;
     }) tt p q
+
+run_more : {T : Type 0} (node number : T → ℕ) (old : ContainerState T)
+    (earlier : List (RegistryReply T)) (calls : List (RegistryCall T))
+    (replies : List (RegistryReply T)) (mid : ContainerState T) (call : RegistryCall T)
+    (reply : RegistryReply T) (new : ContainerState T)
+    → CallRun node number old earlier calls replies mid
+    → CallStep node number mid (earlier ++ replies) call reply new → IsRegistry new.registry
+    → CallRun node number old earlier (calls ++ call ∷ []) (replies ++ reply ∷ []) new
+run_more node number old earlier [] [] mid call reply new s k w = grind (arith, append-nil)
+run_more node number old earlier (c ∷ cs) (r ∷ rs) mid call reply new s k w =
+    grind (
+      arith,
+      append_assoc,
+      run_more node number s.0 (earlier ++ r ∷ []) cs rs mid call reply new s.3
+          (rw append_assoc k) w,
+    )
+run_more node number old earlier calls replies mid call reply new s k w = absurd s
+
+module _ {T : Type 0} {node number : T → ℕ} {mid new : ContainerState T}
+    {replies after : List (RegistryReply T)} where
+  pub one_longer : {call : RegistryCall T} → Answered node number mid replies call after new
+      → length after ≡ length replies + 1
+  one_longer a = ap length a.put ∙ length-append replies (a.reply ∷ [])
+
+  module _ {old : ContainerState T} {calls : List (RegistryCall T)} where
+    pub made_more : (i : ℕ) (call : RegistryCall T) → i < length calls
+        → get_or calls i call ≡ call → length replies ≡ i → Made node number old calls replies mid
+        → Answered node number mid replies call after new → Made node number old calls after new
+    made_more i call h e n made a =
+        let calls_are : take (length after) calls ≡ take i calls ++ call ∷ [] =
+        ap (λ (k : ℕ). take k calls) (one_longer a ∙ ap (λ k. k + 1) n)
+        ∙ (take_more calls i call h ∙ ap (λ (c : RegistryCall T). take i calls ++ c ∷ []) e) in
+        record {
+          run = rw (calls_are, a.put) (run_more node number old ([]) (take i calls) replies mid
+              call a.reply new (rw n at made.run) a.step a.kept);
+        }
+
+    pub made_still : (new ≡ mid) × (after ≡ replies) → Made node number old calls replies mid
+        → Made node number old calls after new
+    made_still e made = rw (e.0, e.1) made
+
+-- the same calls made on two new registries have replies of one kind
+pub same_made : {T : Type 0} {node number : T → ℕ} {a b a' b' : ContainerState T}
+    {calls : List (RegistryCall T)} {ones others : List (RegistryReply T)}
+    → IsNew a.registry × IsNew b.registry → a.registry.capacity ≡ b.registry.capacity
+    → a.registry.budget ≡ b.registry.budget → length ones ≡ length others
+    → Made node number a calls ones a' → Made node number b calls others b'
+    → SameKind ones others
+same_made {calls = calls} {ones = ones} {others = others} new capacity budget same p q =
+    grind (arith, same_kind)
+
+-- the test of each item in turn decides it, where the lists are equally long
+pub counts_equally_many : {T : Type 0} (eq : T → T → Bool) (ones others : List T) (all : Bool)
+    → length ones ≡ length others
+    → all ≡ list_all (λ x. eqb (count_by (eq x) ones) (count_by (eq x) others)) ones → IsTrue all
+    ↔ EquallyMany eq ones others
+counts_equally_many eq ones others all as_long e = (
+  λ yes. record {
+    as_long = as_long;
+    each = λ k d below. eqb-true _ _
+        (AllPass-from_list_all (λ x. eqb (count_by (eq x) ones) (count_by (eq x) others)) ones
+        (sym e ∙ yes) k d below);
+  },
+  λ many. e
+      ∙ list_all-from_AllPass (λ x. eqb (count_by (eq x) ones) (count_by (eq x) others)) ones
+      (λ k d below. eq-eqb _ _ (many.each k d below)),
+)
+
+permuted_equally : {T : Type 0} (eq : T → T → Bool) (ones others : List T)
+    → IsPermutation ones others → EquallyMany eq ones others
+permuted_equally eq ones others p = grind (arith, length_permutation, sum_by-IsPermutation)
+
+same_agree : {T : Type 0} (eq : T → T → Bool) (one other : RegistryReply T) → SameReply one other
+    → AgreesBy eq one other
+same_agree eq (Reply.Handle one) (Reply.Handle other) same = tt
+same_agree eq (Reply.Entries one) (Reply.Entries other) same = search (rules, permuted_equally)
+same_agree eq one other same = same
+
+-- replies of one kind agree
+pub same_kind_agrees : {T : Type 0} (eq : T → T → Bool) (ones others : List (RegistryReply T))
+    → SameKind ones others → AllZip (AgreesBy eq) ones others
+same_kind_agrees eq [] [] same = tt
+same_kind_agrees eq (one ∷ ones) (other ∷ others) same =
+    (same_agree eq one other same.0, same_kind_agrees eq ones others same.1)
+same_kind_agrees eq ones others same = same

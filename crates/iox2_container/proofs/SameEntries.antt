@@ -1,9 +1,9 @@
--- Lists of entries that hold the same details with the same tickets, whatever their slots are.
-use Rattle.iox2_container.proofs.Prelude.{Bool, Entry, InsertsOne, IsPermutation, IsPermutation-cons, IsPermutation-middle, IsPermutation-refl, IsPermutation-sym, IsPermutation-trans, List, [], ap, arith, filter, inl, inr, map-append, refl, subst, sym, ℕ, ◌∙◌, ◌∷◌, ◌≡◌, ◌≢◌}
+-- Which entries stay and which leave in a recovery, and lists of entries that hold the same details
+-- with the same tickets, whatever their slots are.
+use Rattle.iox2_container.proofs.Prelude.{Bool, Entry, InsertsOne, IsPermutation, IsPermutation-cons, IsPermutation-middle, IsPermutation-refl, IsPermutation-sym, IsPermutation-trans, List, [], ap, arith, candidates, false, filter, inl, inr, is_leaving, leaving, map, map-append, marks_of, not, refl, staying, subst, sym, true, ℕ, ◌&&◌, ◌∙◌, ◌∷◌, ◌≡◌, ◌≢◌, ◌⊎◌}
 use Rattle.iox2_container.proofs.Keeping.{AllPairs-loss}
-use Rattle.iox2_container.proofs.CallsInTurn.{details_of}
-use Rattle.iox2_container.proofs.Gaining.{AllPairs-head, AllPairs-tail}
-use Rattle.iox2_container.proofs.Members.{Among, gained, among_more, among_less, of_all, without, DifferBy, other_differs, filter_from, filter_to}
+use Rattle.iox2_container.proofs.Passes.{details_of}
+use Rattle.iox2_container.proofs.Lists.{AllPairs-head, AllPairs-tail, Among, gained, among_more, among_less, of_all, without, DifferBy, other_differs, filter_from, filter_to}
 
 abbrev pub ticket_in : {T : Type 0} → Entry T → ℕ
 ticket_in x = x.ticket
@@ -97,3 +97,36 @@ within_after_filter keep es fs f t d k =
     let r = filter_from (λ e. keep e.details) es k.0 k.1 in
     let w = f t d (k.0, r.0, k.2, k.3) in
     (w.0, filter_to (λ e. keep e.details) fs w.0 w.1 (ap keep (sym w.3 ∙ k.3) ∙ r.1), w.2, w.3)
+
+module _ {T : Type 0} (is_dead : T → Bool) (marked : ℕ → Bool) (es : List (Entry T)) where
+  abbrev stays : Entry T → Bool
+  stays e = not (is_leaving is_dead marked e)
+
+  pub stays_among : (x : Entry T) → Among x (staying is_dead marked es) → Among x es
+  stays_among x h = (filter_from stays es x h).0
+
+  pub leaves_among : (x : Entry T) → Among x (leaving is_dead marked es) → Among x es
+  leaves_among x h = (filter_from (is_leaving is_dead marked) es x h).0
+
+  pub stays_or_leaves : (x : Entry T) → Among x es
+      → Among x (staying is_dead marked es) ⊎ Among x (leaving is_dead marked es)
+  stays_or_leaves x h = grind (arith, filter_to)
+
+  pub stays_apart : (n : Entry T → ℕ) (x y : Entry T) → DifferBy n es
+      → Among x (staying is_dead marked es) → Among y (leaving is_dead marked es) → n x ≢ n y
+  stays_apart n x y d h k same =
+      let l = filter_from (is_leaving is_dead marked) es y k in
+      let s = filter_from stays es x h in
+      let w = without es y l.0 in
+      elim (among_less w.rest es y x w.gains s.0) [
+        | inl m ↦ other_differs n w.rest es y x w.gains d m same
+        | inr e ↦ (let z : false ≡ true = sym (ap not l.1) ∙ (sym (ap stays e) ∙ s.1) in cc)
+      ]
+
+-- what stays, where the answers are those of a function of the details
+pub staying_by : {T : Type 0} (is_dead answer : T → Bool) (marked : ℕ → Bool) (es : List (Entry T))
+    → marks_of is_dead marked es ≡ map answer (details_of (candidates is_dead es))
+    → staying is_dead marked es ≡ passing (λ d. not (is_dead d && answer d)) es
+staying_by is_dead answer marked [] a = refl
+staying_by {T} is_dead answer marked (e ∷ es) a =
+    grind (arith, filter, staying_by is_dead answer marked es)

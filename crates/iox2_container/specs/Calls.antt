@@ -1,17 +1,18 @@
--- Calls on a registry as values, and when the replies of two registries are of one kind.
-use Rattle.std.specs.Prelude.{◌≡◌, ℕ, ◌==◌, Bool, not, ⊤, Option, Some, None, Result, Ok, Err}
-use Rattle.std.specs.Prelude.{List, [], ◌∷◌, ◌++◌, length, take, slice_get}
+-- Calls on a registry as values, when the replies of two registries are of one kind, and when they
+-- agree by the `==` of the details, of which only an equivalence is known.
+use Rattle.std.specs.Prelude.{◌≡◌, ℕ, ◌==◌, Bool, not, ⊤, Option, Some, None, Result, Ok, Err, List, [], ◌∷◌, ◌++◌, length, take, slice_get, IsTrue, All, count_by}
 use Rattle.std.specs.Global.{Vec}
 use Rattle.std.specs.List.{list_any, AllZip}
 use Rattle.std.specs.List.Sorted.{IsPermutation}
+use Rattle.std.specs.Cmp.Lexicographic.{pointwise}
+use Rattle.iox2_container.specs.declared.container.comparison.RegistryCall.TheVariants as Call
+use Rattle.iox2_container.specs.declared.container.comparison.RegistryReply.TheVariants as Reply
 use Rattle.iox2_container.specs.declared.container.refusal.ContainerAddFailure.{ContainerAddFailure}
 use Rattle.iox2_container.specs.declared.container.refusal.ContainerRemoveError.{ContainerRemoveError}
 use Rattle.iox2_container.specs.declared.container.release.ReleaseMode.{ReleaseMode}
 use Rattle.iox2_container.specs.declared.container.release.ReleaseState.{ReleaseState}
-use Rattle.iox2_container.specs.declared.container.comparison.calls.RegistryCall.{RegistryCall}
-use Rattle.iox2_container.specs.declared.container.comparison.calls.RegistryCall.TheVariants as Call
-use Rattle.iox2_container.specs.declared.container.comparison.calls.RegistryReply.{RegistryReply}
-use Rattle.iox2_container.specs.declared.container.comparison.calls.RegistryReply.TheVariants as Reply
+use Rattle.iox2_container.specs.declared.container.comparison.RegistryCall.{RegistryCall}
+use Rattle.iox2_container.specs.declared.container.comparison.RegistryReply.{RegistryReply}
 use Rattle.iox2_container.specs.Handle.{Handle}
 use Rattle.iox2_container.specs.State.{IsRegistry}
 use Rattle.iox2_container.specs.ContainerState.{ContainerState}
@@ -119,3 +120,21 @@ SameReply one other = one ≡ other
 -- the same replies in turn, but for handles and the order of listings
 abbrev pub SameKind : {T : Type 0} → List (RegistryReply T) → List (RegistryReply T) → Type 0
 SameKind ones others = AllZip SameReply ones others
+
+-- as many items, and each of the first list has as many equals in both
+pub record EquallyMany {T : Type 0} (eq : T → T → Bool) (ones others : List T) : Type 0 where
+  pub as_long : length ones ≡ length others
+  pub each : All (λ x. count_by (eq x) ones ≡ count_by (eq x) others) ones
+
+-- the same reply, but for handles and the order of listings, where details are compared by `==`
+abbrev pub AgreesBy : {T : Type 0} → (T → T → Bool) → RegistryReply T → RegistryReply T → Type 0
+AgreesBy eq (Reply.Handle one) (Reply.Handle other) = ⊤
+AgreesBy eq (Reply.Entries one) (Reply.Entries other) = EquallyMany eq one.items other.items
+AgreesBy eq one other = one ≡ other
+
+-- the same reply, where details are compared in turn by `==`
+abbrev pub IsSameReplyBy : {T : Type 0} → (T → T → Bool) → RegistryReply T → RegistryReply T
+    → Type 0
+IsSameReplyBy eq (Reply.Entries one) (Reply.Entries other) =
+    IsTrue (pointwise eq one.items other.items)
+IsSameReplyBy eq one other = one ≡ other

@@ -1,9 +1,10 @@
--- The entries of numbered slots.
-use Rattle.std.specs.Prelude.{◌≡◌, ◌≢◌, ℕ, ◌+◌, ◌≤◌, Option, Some, None, List, [], ◌∷◌, map, slice_get}
+-- The entries of numbered slots, and what they say together with a header.
+use Rattle.std.specs.Prelude.{◌≡◌, ◌≢◌, ℕ, ◌+◌, ◌≤◌, Option, Some, None, List, [], ◌∷◌, map, slice_get, All, length}
 use Rattle.iox2_container.specs.declared.container.cell.Occupant.{Occupant}
 use Rattle.iox2_container.specs.Cells.{occupant}
 use Rattle.iox2_container.specs.Handle.{Handle}
-use Rattle.iox2_container.specs.State.{Entry}
+use Rattle.iox2_container.specs.State.{Entry, RegistryState, IsRegistry}
+use Rattle.iox2_container.specs.declared.container.counted_map.RegistryHeader.{RegistryHeader}
 
 -- the entries in cells of which the first is this slot
 abbrev pub entries_from : {T : Type 0} → ℕ → List (Option (Occupant T)) → List (Entry T)
@@ -30,3 +31,24 @@ Finds {T} cells handle None = (details : T)
     → slice_get cells handle.slot ≢ Some (Some (occupant handle.ticket details))
 Finds cells handle (Some details) =
     slice_get cells handle.slot ≡ Some (Some (occupant handle.ticket details))
+
+-- the registry that a header and cells stand for
+abbrev pub registry_of : {T : Type 0} → RegistryHeader → List (Option (Occupant T))
+    → RegistryState T
+registry_of a cells = record {
+  service = a.service;
+  role = a.role;
+  capacity = length cells;
+  budget = a.budget;
+  entries = entries_from 0 cells;
+  locked = a.locked;
+  used = a.used;
+}
+
+-- header and cells fit together, and the end is
+-- just behind the slot of the entry that came last, while it is there
+pub record AreRegistry {T : Type 0} (a : RegistryHeader) (cells : List (Option (Occupant T)))
+    (newest_end : ℕ) : Type 0 where
+  pub registry : IsRegistry (registry_of a cells)
+  pub counted : a.count ≡ length (entries_from 0 cells)
+  pub newest : All (λ e. e.ticket + 1 ≡ a.used → newest_end ≡ e.slot + 1) (entries_from 0 cells)

@@ -1,13 +1,11 @@
 //! Registries: bounded maps from handles to details. No handle is given twice, and a locked
 //! registry stays locked.
 
-mod attached;
 mod cell;
 mod comparison;
 mod counted_map;
 mod free;
 mod handle;
-mod listing;
 mod passes;
 mod queries;
 mod refusal;
@@ -19,12 +17,10 @@ mod slot_map;
 mod slots;
 mod touches;
 
-pub use attached::Attached;
 pub use comparison::{RegistryCall, RegistryReply, compare};
 pub use handle::ContainerHandle;
-pub use listing::entries;
 pub use refusal::{ContainerAddFailure, ContainerRemoveError};
-pub use registry::Registry;
+pub use registry::{Attached, Registry, entries};
 pub use release::{ReleaseMode, ReleaseState};
 pub use role::Role;
 pub use service_numbers::ServiceNumbers;

@@ -7,7 +7,7 @@ ghost use Rattle.iox2_container.specs.State.{RegistryState};
 ghost use Rattle.iox2_container.specs.Steps.{RecoverStep, HasEntry};
 ghost use Rattle.iox2_container.specs.Histories.{Change, History, IsNew, IsRecoveryChange};
 ghost use Rattle.iox2_container.specs.Histories.{IsRefused, Remains, TakesOut, handles_given};
-ghost use Rattle.iox2_container.specs.Agreement.{IsSameReplyBy};
+ghost use Rattle.iox2_container.specs.Calls.{IsSameReplyBy};
 ghost use Rattle.iox2_container.specs.ServiceNumbers.{NumbersRise};
 
 use crate::container::{

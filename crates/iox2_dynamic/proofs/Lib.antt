@@ -1,12 +1,6 @@
 pub mod Names
 pub mod Callbacks
-pub mod Recoveries
 pub mod Keeping
-pub mod Moving
-pub mod Attaching
-pub mod Sides
-pub mod Dying
-pub mod Making
-pub mod Skipping
+pub mod Recoveries
 pub mod Rooms
 pub mod Sending

@@ -5,7 +5,7 @@ pub use Rattle.iox2_container.specs.Mapped.{container_as, entry_as, registry_as}
 pub use Rattle.iox2_container.specs.Steps.{AddStep, CalledInTurn, InsertsOne, Leaves, RecoverStep, RemoveStep, candidates, is_leaving, marks_of, staying}
 pub use Rattle.iox2_container.specs.declared.container.refusal.ContainerAddFailure.TheVariants.{IsLocked, OutOfSpace}
 pub use Rattle.iox2_dynamic.specs.Details.{node_of, port_of, role_of}
-pub use Rattle.iox2_dynamic.specs.Fields.{service_in}
+pub use Rattle.iox2_dynamic.specs.Patterns.{service_in}
 pub use Rattle.iox2_dynamic.specs.Ports.{AddsTo, CanListIn, Ports, RecoversBoth, RemovesFrom, TakesIn, has_ports_of}
 pub use Rattle.iox2_dynamic.specs.PortsState.{Side, of_side, other_side, side_of}
 pub use Rattle.iox2_dynamic.specs.PortsState.Side.{First, Second}

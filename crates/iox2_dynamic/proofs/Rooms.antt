@@ -1,12 +1,26 @@
--- What is registered or attached is what there is room for.
-use Rattle.std.proofs.Common.{◌≡◌, ◌≢◌, ℕ, ◌<◌, true≢false, Result, Ok, Err, refl, sym, ◌∙◌, arith, inl, inr}
-use Rattle.std.specs.Prelude.{IsOk}
-use Rattle.iox2_dynamic.proofs.Names.{PatternKind, ContainerAddFailure, IsLocked, OutOfSpace, Role, Handle, RegistryState, AddStep, TakesEntry, PortDetails, node_of, role_of, AddsTo, Ports, TakesIn, Side, of_side, First, Second, Service, TakesPort, entries_of_node, first_role, second_role, AttachStep, RegisterStep}
-use Rattle.iox2_config.specs.declared.hash.input.PatternKind.TheVariants as kind
+-- What is registered or attached is what there is room for, and ports only of the pattern's roles.
+use Rattle.iox2_dynamic.proofs.Names.{PatternKind, Role, HasRole, LacksRole, role_at, side_of, ContainerAddFailure, IsLocked, OutOfSpace, Handle, RegistryState, AddStep, TakesEntry, PortDetails, node_of, role_of, AddsTo, Ports, TakesIn, Side, of_side, First, Second, Service, TakesPort, entries_of_node, first_role, second_role, AttachStep, RegisterStep, ContainerState, IsService, Admits, AttachesTo, NoSpace}
+use Rattle.std.proofs.Common.{◌≡◌, Bool, true, false, Option, Some, None, inl, inr, refl, sym, ◌≢◌, ℕ, ◌<◌, true≢false, Result, Ok, Err, ◌∙◌, arith}
+use Rattle.std.specs.Prelude.{◌↔◌, IfNone, IfSome, IsTrue, is_some, IsOk}
 use Rattle.iox2_dynamic.specs.declared.dynamic_config.answers.AttachError.{AttachError}
-use Rattle.iox2_dynamic.specs.declared.dynamic_config.answers.AttachError.TheVariants as attach
 use Rattle.iox2_dynamic.specs.declared.dynamic_config.answers.RegisterNodeResult.{RegisterNodeResult}
 use Rattle.iox2_dynamic.specs.declared.dynamic_config.answers.RegisterNodeResult.TheVariants.{MarkedForDestruction, ExceedsMaxNumberOfNodes}
+use Rattle.iox2_config.specs.declared.hash.input.PatternKind.TheVariants as kind
+use Rattle.iox2_dynamic.specs.declared.dynamic_config.answers.AttachError.TheVariants as attach
+use Rattle.iox2_dynamic.proofs.Keeping.{not_false}
+
+lacks : (p : PatternKind) (role : Role) → LacksRole p role → HasRole p role → ⊥
+lacks p role none (inl e) = none.0 e
+lacks p role none (inr e) = none.1 e
+
+-- a role of the pattern is that of one kind of its ports
+pub has_side : (p : PatternKind) (role : Role) (side : Option Bool)
+    → IfSome side (λ first. role ≡ role_at p (side_of first)) → IfNone side (LacksRole p role)
+    → IsTrue (is_some side) ↔ HasRole p role
+has_side p role (Some true) some none = ((λ _. inl some), (λ _. refl))
+has_side p role (Some false) some none = ((λ _. inr some), (λ _. refl))
+has_side p role None some none =
+    ((λ t. absurd (not_false (sym t))), (λ has. absurd (lacks p role none has)))
 
 pub roles_differ : (pattern : PatternKind) → first_role pattern ≢ second_role pattern
 roles_differ kind.PublishSubscribe e = (cc)
@@ -78,3 +92,22 @@ attached_where old details (Err attach.NodeNotRegistered) new there s =
     (λ e. absurd (true≢false (sym e)), λ t. absurd (omega (arith, there, s.1)))
 attached_where old details (Err attach.OutOfSpace) new there s =
     (λ e. absurd (true≢false (sym e)), λ t. absurd (not_taken _ _ _ details s.1.0 t.1))
+
+-- no registry of ports is locked
+is_open : (side : Side) (s : Service) → IsService s
+    → (of_side side s.ports.first s.ports.second).registry.locked ≡ false
+is_open First s i = i.ports_are.first.is_open
+is_open Second s i = i.ports_are.second.is_open
+
+module _ (a b : Role) (nodes : ContainerState ℕ) (old new : Ports) (d : PortDetails)
+    (admits : Admits nodes (node_of d) (Ok tt)) where
+  pub attaches : (handle : Handle) → AddsTo a b old d (Ok handle) new
+      → AttachesTo a b nodes old d (Ok handle) new
+  attaches handle adds pattern first second i = (admits, (rw (first, second) adds, refl))
+
+  pub is_full : (why : ContainerAddFailure) → AddsTo a b old d (Err why) new
+      → AttachesTo a b nodes old d (Err NoSpace) new
+  is_full OutOfSpace adds pattern first second i = (admits, (rw (first, second) adds, refl))
+  is_full IsLocked adds pattern first second i =
+      let s : Service = record { pattern = pattern; ports = old; nodes = nodes } in
+      absurd (not_false (sym adds.step.step.0 ∙ is_open adds.side s i))

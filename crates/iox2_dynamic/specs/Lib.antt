@@ -7,9 +7,7 @@ pub mod PortsState
 pub mod Steps
 pub mod Recoveries
 pub mod Answers
--- Inner facts: the names that these files share, how private fields make
--- what contracts see of a service, and how lists of ports grow.
+-- Inner facts: the names that these files share, and how private fields make
+-- what contracts see of a service.
 pub mod Prelude
 pub mod Patterns
-pub mod Fields
-pub mod Lists

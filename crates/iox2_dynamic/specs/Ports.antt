@@ -1,12 +1,13 @@
 -- The ports of a service, and what the calls on them do.
-use Rattle.std.specs.Prelude.{◌≡◌, ◌≢◌, ℕ, ◌+◌, ◌≤◌, nat_lt, ◌||◌, ◌⊎◌, Bool, true, false, Option, Some, None, Result, Err, List, ◌++◌, length}
+use Rattle.iox2_dynamic.specs.Prelude.{Adds, ContainerAddFailure, ContainerRemoveError, ContainerState, Default, Handle, HasEntry, IsUnknownHandle, PortCleanupAction, PortDetails, RegistryState, ReleaseState, Removes, Role, TakesEntry, UniquePortId, Visit, details_where, entries_of, fresh, is_of, listed}
+use Rattle.std.specs.Prelude.{◌≡◌, ◌+◌, Bool, if◌then◌else◌, [], ◌∷◌, ◌++◌, vec_len, vec_capacity, ◌≢◌, ℕ, ◌≤◌, nat_lt, ◌||◌, ◌⊎◌, true, false, Option, Some, None, Result, Err, List, length}
+use Rattle.std.specs.Global.{Vec}
 use Rattle.iox2_texts.specs.declared.bounded.CallbackProgression.{CallbackProgression}
-use Rattle.iox2_dynamic.specs.Prelude.{UniquePortId, ContainerAddFailure, ContainerRemoveError, Default, ReleaseState, Role, Handle, ContainerState, fresh, RegistryState, Visit, IsUnknownHandle, HasEntry, TakesEntry, details_where, entries_of, is_of, listed, PortCleanupAction, PortDetails, Adds, Removes}
 use Rattle.iox2_container.specs.declared.container.refusal.ContainerRemoveError.TheVariants.{ContainerHandleNotOwnedByContainer}
 use Rattle.iox2_container.specs.Callbacks.{CanVisit}
+use Rattle.iox2_container.specs.Mapped.{container_as}
 use Rattle.iox2_dynamic.specs.Recoveries.{RecoversPorts, ids_of_node}
 use Rattle.iox2_dynamic.specs.Details.{role_of, node_of}
-use Rattle.iox2_container.specs.Mapped.{container_as}
 use Rattle.iox2_dynamic.specs.PortsState.{PortsState, Side, of_side, other_side}
 
 -- the ports of a service, whatever their kinds
@@ -125,3 +126,10 @@ ListsIn calls a b p role f false f' = IsNeither a b role × (f' ≡ f)
 ListsIn calls a b p role f true f' =
     ((role ≡ a) × Visit calls f (listed p.first.registry) f')
     ⊎ ((role ≡ b) × Visit calls f (listed p.second.registry) f')
+
+-- the details were put at the end, where they are to be put, and no memory was taken for them
+abbrev pub PutsIf : Bool → PortDetails → Vec PortDetails → Vec PortDetails → Type 0
+PutsIf goes details old new =
+    (new.items ≡ (if goes then old.items ++ details ∷ [] else old.items))
+    × (vec_len new ≡ (if goes then vec_len old + 1 else vec_len old))
+    × (vec_capacity new ≡ vec_capacity old)

@@ -12,6 +12,6 @@ pub use Rattle.iox2_container.specs.declared.container.release.ReleaseState.{Rel
 pub use Rattle.iox2_container.specs.declared.container.role.Role.{Role}
 pub use Rattle.iox2_dynamic.specs.declared.dynamic_config.answers.DeregisterNodeState.{DeregisterNodeState}
 pub use Rattle.iox2_dynamic.specs.declared.dynamic_config.answers.RegisterNodeResult.{RegisterNodeResult}
-pub use Rattle.iox2_dynamic.specs.declared.dynamic_config.cleanup.PortCleanupAction.{PortCleanupAction}
+pub use Rattle.iox2_dynamic.specs.declared.dynamic_config.answers.PortCleanupAction.{PortCleanupAction}
 pub use Rattle.iox2_dynamic.specs.declared.dynamic_config.port_details.PortDetails.{PortDetails}
 pub use Rattle.iox2_ids.specs.declared.identifiers.port_id.UniquePortId.{UniquePortId}

@@ -1,7 +1,7 @@
 -- What becomes of the ports and the nodes of a dead node.
 use Rattle.std.specs.Prelude.{Bool, true, false, ◌≡◌, ℕ, List, map}
 use Rattle.iox2_dynamic.specs.Prelude.{UniquePortId, Default, LockIfLastIndex, ReleaseState, RecoversBy, ContainerState, details_where, is_of, PortCleanupAction, PortDetails}
-use Rattle.iox2_dynamic.specs.declared.dynamic_config.cleanup.PortCleanupAction.TheVariants.{RemovePort, SkipPort}
+use Rattle.iox2_dynamic.specs.declared.dynamic_config.answers.PortCleanupAction.TheVariants.{RemovePort, SkipPort}
 use Rattle.iox2_dynamic.specs.Details.{node_of, port_of}
 
 -- whether a port goes

@@ -3,7 +3,6 @@
 
 mod answers;
 pub mod blackboard;
-mod cleanup;
 mod details;
 pub mod event;
 mod listing;
@@ -13,18 +12,17 @@ pub mod publish_subscribe;
 mod questions;
 mod recovery;
 pub mod request_response;
-mod roles;
 mod service;
 mod settings;
 
-pub use answers::{AttachError, DeregisterError, DeregisterNodeState, RegisterNodeResult};
-pub use cleanup::PortCleanupAction;
+pub use answers::{
+    AttachError, DeregisterError, DeregisterNodeState, PortCleanupAction, RegisterNodeResult,
+};
 pub use details::{
     ClientDetails, ListenerDetails, NotifierDetails, PortKind, PublisherDetails, ReaderDetails,
     ServerDetails, SubscriberDetails, WriterDetails,
 };
 pub use pattern::{MessagingPattern, PortRegistries};
 pub use port_details::PortDetails;
-pub use roles::PortRoles;
 pub use service::DynamicConfig;
-pub use settings::MessagingPatternSettings;
+pub use settings::{MessagingPatternSettings, PortRoles};

@@ -11,7 +11,7 @@ use Rattle.iox2_dynamic.specs.PortsState.{side_of}
 use Rattle.std.proofs.lemmas.List.{append-nil, append_assoc, length-append, length-map, length-set, map-append}
 use Rattle.std.proofs.Math.Seq.{set-append_seam, drop-cons}
 use Rattle.iox2_container.specs.Mapped.{entry_as, container_as}
-use Rattle.iox2_container.proofs.ListEdits.{filter-map}
+use Rattle.iox2_container.proofs.Lists.{filter-map}
 
 puts_all : {A : Type 0} (before : List A × ℕ) (items : List A) (after : List A × ℕ)
     → Visits Puts before items after → PutsAll items before after

@@ -2,7 +2,7 @@
 use Rattle.iox2sd.proofs.Names.{Bool, ContainerState, Entry, Keeps, List, PortDetails, PortId, Service, Went, ap, arith, count_by-le-length, counted, is_leaving, is_of, length, length-filter, node_of, not, sym, ℕ, ◌-◌, ◌≡◌, ◌≤◌}
 use Rattle.iox2_ids.specs.declared.identifiers.port_id.UniquePortId.{UniquePortId}
 use Rattle.iox2_dynamic.specs.declared.dynamic_config.answers.DeregisterNodeState.{DeregisterNodeState}
-use Rattle.iox2_dynamic.specs.declared.dynamic_config.cleanup.PortCleanupAction.{PortCleanupAction}
+use Rattle.iox2_dynamic.specs.declared.dynamic_config.answers.PortCleanupAction.{PortCleanupAction}
 use Rattle.iox2_dynamic.specs.Recoveries.{RecoversPorts}
 use Rattle.iox2_dynamic.specs.Steps.{DeadStep}
 use Rattle.iox2sd.specs.declared.service.roles.Counts.{Counts}

@@ -10,8 +10,8 @@ use Rattle.iox2sd_common.specs.Ids.{number_of}
 use Rattle.iox2sd.specs.declared.values.PortId.{PortId}
 use Rattle.iox2sd.specs.Prelude.{port_value, HasOwners, NoMoreOwners, DeadStep, ReadsNode, Id, Counts, NodeRemoval, Open, Locked, Refused}
 use Rattle.iox2_dynamic.specs.declared.dynamic_config.answers.DeregisterNodeState.{DeregisterNodeState}
-use Rattle.iox2_dynamic.specs.declared.dynamic_config.cleanup.PortCleanupAction.{PortCleanupAction}
-use Rattle.iox2_dynamic.specs.declared.dynamic_config.cleanup.PortCleanupAction.TheVariants.{RemovePort, SkipPort}
+use Rattle.iox2_dynamic.specs.declared.dynamic_config.answers.PortCleanupAction.{PortCleanupAction}
+use Rattle.iox2_dynamic.specs.declared.dynamic_config.answers.PortCleanupAction.TheVariants.{RemovePort, SkipPort}
 use Rattle.iox2_dynamic.specs.Service.{Service as Held}
 use Rattle.iox2sd_common.specs.declared.status.Status.TheVariants as status
 

@@ -2,7 +2,7 @@
 use Rattle.service_conformance.proofs.Prelude.{All, All-append, All-cons, All-head, All-nil, All-tail, All-weaker, Err, List, Ok, [], ap, arith, cases_order, drop, inl, inr, insert, refl, subst, suc, sym, take, take-append-drop, ℕ, ◌++◌, ◌+◌, ◌<◌, ◌∙◌, ◌∷◌, ◌≡◌, ◌≢◌}
 use Rattle.service_conformance.proofs.Names.{AddStep, ContainerAddFailure, Entry, Handle, HasRoom, InsertsOne, IsFreePosition, IsFull, IsLocked, IsRegistry, MayGive, OutOfSpace, RegistryState, TakesEntry, handle_of, slot_entry}
 use Rattle.std.specs.Prelude.{Result}
-use Rattle.iox2_container.proofs.Gaining.{All-back, AllPairs-head, AllPairs-tail}
+use Rattle.iox2_container.proofs.Lists.{All-back, AllPairs-head, AllPairs-tail}
 use Rattle.iox2_container.proofs.Keeping.{kept_add, All-gain}
 use Rattle.service_conformance.proofs.Rising.{Rise, one_position, rise_put}
 

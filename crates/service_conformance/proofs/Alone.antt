@@ -4,7 +4,7 @@ use Rattle.service_conformance.proofs.Names.{Answered, Call, CallStep, Command, 
 use Rattle.histories.specs.Laws.{in_order}
 use Rattle.histories.proofs.Alone.{calls_alone_are_runs}
 use Rattle.histories.proofs.Indices.{only}
-use Rattle.iox2_container.proofs.Growing.{Grows}
+use Rattle.iox2_container.proofs.Histories.{Grows}
 use Rattle.service_descriptions.specs.declared.replay.machine.command.Command.TheVariants as command
 use Rattle.service_descriptions.specs.declared.replay.machine.reply.Reply.TheVariants as reply
 use Rattle.service_descriptions.proofs.Serving.{moves, keeps}

@@ -1,12 +1,12 @@
 -- The recovery of a dead node, where ports of some values stay: what it leaves, and its reply.
 use Rattle.service_conformance.proofs.Prelude.{Bool, List, Vec, ap, false, filter, if◌then◌else◌, map, not, refl, true, ℕ, ◌&&◌, ◌∙◌, ◌≡◌, and-true, All, All-cons, All-head, All-nil, All-tail, [], arith, eq-eqb, get_or, ne_eqb, subst, sym, ◌<◌, ◌==◌, ◌∷◌, All-filter}
 use Rattle.service_conformance.proofs.Names.{CalledInTurn, CallsCleanup, ByPort, CleanedUp, Cleans, ContainerState, Default, DeregisterNodeState, Entry, LeadsTo, LockIfLastIndex, NodesAfter, PortCleanupAction, PortDetails, RecoverStep, RegistryState, ReleaseState, RemovePort, Reply, ServesDead, Service, SkipPort, after_dead, details_where, at_rest, has_ports_of, is_kept, is_of, marks_of, node_of, nodes_if, port_of, ports_at_rest, quiet, removes, state_of, staying, with_left, without_node, without_ports, ArePossible, IsRegistry, IsService, Ports, RecoversBoth, RecoversNodes, RecoversPorts, action_for, candidates, container, port_value, release_state, reply_in, reply_of_owners, ReleaseMode, goes, reply_of_state}
-use Rattle.iox2_container.proofs.Collecting.{answers_by}
-use Rattle.iox2_container.proofs.Leaving.{staying_by}
+use Rattle.iox2_container.proofs.Callable.{answers_by}
+use Rattle.iox2_container.proofs.SameEntries.{staying_by}
 use Rattle.iox2_dynamic.specs.declared.dynamic_config.answers.DeregisterNodeState.TheVariants as nodes
 use Rattle.service_descriptions.specs.declared.replay.machine.reply.Reply.TheVariants as reply
-use Rattle.iox2_container.proofs.Gaining.{AllPairs-head, AllPairs-tail}
-use Rattle.iox2_dynamic.proofs.Dying.{dead_kept, skipped_kept}
+use Rattle.iox2_container.proofs.Lists.{AllPairs-head, AllPairs-tail}
+use Rattle.iox2_dynamic.proofs.Keeping.{dead_kept, skipped_kept}
 use Rattle.service_conformance.specs.declared.conformance.line_reply.LineReply.TheVariants as line
 use Rattle.service_conformance.specs.declared.conformance.seen_reply.ReplyWord.TheVariants as word
 use Rattle.service_conformance.specs.declared.conformance.possible.Possible.TheVariants as possible

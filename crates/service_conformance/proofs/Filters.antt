@@ -1,7 +1,7 @@
 -- Registries of which some entries are left.
 use Rattle.service_conformance.proofs.Prelude.{All-filter, AllPairs-filter, Bool, List, [], ap, arith, false, filter, if◌then◌else◌, length, length-filter_both, list_any, lt-ltb, nat_lt, not, refl, sym, true, ℕ, ◌&&◌, ◌<◌, ◌||◌, ◌∙◌, ◌∷◌, ◌≡◌, ◌≢◌}
 use Rattle.service_conformance.proofs.Names.{Entry, IsRegistry, PortDetails, RegistryState, ReleaseMode, candidates, goes, has_ports_of, is_kept, is_of, node_of, stays, with_left, without_ports, ports_at_rest}
-use Rattle.iox2_container.proofs.Removing.{nothing_left, locks_empty}
+use Rattle.iox2_container.proofs.Keeping.{nothing_left, locks_empty}
 
 pub kept_filter : {T : Type 0} (r : RegistryState T) (mode : ReleaseMode) (p : Entry T → Bool)
     → IsRegistry r → IsRegistry (with_left r mode (filter p r.entries))

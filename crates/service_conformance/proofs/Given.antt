@@ -3,7 +3,7 @@ use Rattle.service_conformance.proofs.Prelude.{All, All-cons, All-head, All-nil,
 use Rattle.service_conformance.proofs.Names.{Becomes, Entry, First, GivesNode, GivesNodes, GivesPort, GivesPorts, IsBefore, IsPortRegistry, IsRegistry, IsService, IsUnused, MayStand, PortDetails, Registered, RegistryState, Role, Second, Service, Side, StandsLast, UsedSo, container, entries_of_node, is_of, node_of, ports_at, role_at, role_of, slot_entry, with_last, with_nodes, with_ports, with_used}
 use Rattle.std.specs.Prelude.{Result, Ok, Err}
 use Rattle.iox2_container.proofs.Counting.{counted, counted-between}
-use Rattle.iox2_container.proofs.Gaining.{All-back, AllPairs-head, AllPairs-tail}
+use Rattle.iox2_container.proofs.Lists.{All-back, AllPairs-head, AllPairs-tail}
 use Rattle.iox2_dynamic.proofs.Keeping.{with_nodes as other_nodes}
 use Rattle.service_conformance.proofs.Sides.{one_side, ports_are}
 

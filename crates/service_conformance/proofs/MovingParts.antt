@@ -1,8 +1,7 @@
 -- Changes of one registry of a service, and two of them in either order.
 use Rattle.service_conformance.proofs.Prelude.{Bool, List, Ok, [], ap, arith, length, refl, subst, sym, true, ℕ, ◌++◌, ◌||◌, ◌∙◌, ◌∷◌, ◌≡◌, inl, inr, map, ◌==◌, ◌≢◌, ◌⊎◌}
 use Rattle.service_conformance.proofs.Names.{Entry, Handle, InsertsOne, IsRegistry, RegistryState, ReleaseMode, ReleaseState, RemoveStep, handle_of, lock_after, release_state, with_left, First, IsService, PortDetails, Second, Service, Side, is_among, port_ids, port_of, port_value, ports_at, role_at}
-use Rattle.iox2_container.proofs.CellEntries.{gains_later}
-use Rattle.iox2_container.proofs.Gaining.{length-InsertsOne}
+use Rattle.iox2_container.proofs.Lists.{gains_later, length-InsertsOne}
 use Rattle.service_conformance.proofs.Removes.{kept_without}
 use Rattle.service_conformance.proofs.Looking.{by_cases, IsBetween, LosesIds, loses_between}
 use Rattle.service_conformance.specs.declared.conformance.possible.Part.TheVariants as part

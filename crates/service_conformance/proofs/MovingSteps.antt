@@ -2,9 +2,8 @@
 use Rattle.service_conformance.proofs.Prelude.{All, All-head, All-tail, Err, List, None, Ok, Option, Result, Some, [], ap, arith, eq-eqb, eqb-true, false, false_from_ne_true, inl, inr, ltb-true, nat_eq, nat_lt, ne_eqb, or_cases, refl, same_Some, subst, suc, sym, true, zero, ℕ, Bool, ◌&&◌, ◌<◌, ◌∙◌, ◌∷◌, ◌≡◌}
 use Rattle.service_conformance.proofs.Names.{AddStep, Adds, Call, CallStep, Change, Changes, Command, ContainerHandleNotOwnedByContainer, ContainerRemoveError, Default, Entry, First, Handle, HasEntry, HasWords, InsertsOne, IsChange, IsRegistry, IsService, LockIfLastIndex, OnSide, PortDetails, Registered, RegistryState, ReleaseState, RemoveStep, RemovesPort, Reply, Role, Second, Serves, ServesAdd, ServesDeregister, ServesRegister, ServesRelease, Service, Side, Unlocked, entries_of_node, first_role, handle_in, handle_words, has_ports_of, is_last_of_ports, is_of, named, node_of, ports_at, quiet, role_at, role_of, second_role, text_of, untouched, word_text}
 use Rattle.iox2_container.proofs.Counting.{counted, counted-InsertsOne, counted-cons, one_if}
-use Rattle.iox2_container.proofs.Gaining.{All-back}
-use Rattle.iox2_dynamic.proofs.Keeping.{leaving_kept, register_kept}
-use Rattle.iox2_dynamic.proofs.Moving.{attach_kept, release_kept}
+use Rattle.iox2_container.proofs.Lists.{All-back}
+use Rattle.iox2_dynamic.proofs.Keeping.{leaving_kept, register_kept, attach_kept, release_kept}
 use Rattle.iox2_dynamic.specs.Steps.{AttachStep}
 use Rattle.service_descriptions.specs.declared.replay.machine.command.Command.TheVariants as command
 use Rattle.service_descriptions.specs.declared.replay.machine.reply.Reply.TheVariants as reply

@@ -27,8 +27,8 @@ pub use Rattle.iox2_dynamic.specs.Recoveries.{CallsCleanup, RecoversNodes, Recov
 pub use Rattle.iox2_dynamic.specs.Service.{HasRole, IsPortRegistry, IsService, Registered, Service, entries_of_node, first_role, role_at, second_role}
 pub use Rattle.iox2_dynamic.specs.Steps.{AddsPort, DeadStep, IsOpenFor, NodesAfter, RemovesPort, is_last_of_ports}
 pub use Rattle.iox2_dynamic.specs.declared.dynamic_config.answers.DeregisterNodeState.{DeregisterNodeState}
-pub use Rattle.iox2_dynamic.specs.declared.dynamic_config.cleanup.PortCleanupAction.{PortCleanupAction}
-pub use Rattle.iox2_dynamic.specs.declared.dynamic_config.cleanup.PortCleanupAction.TheVariants.{RemovePort, SkipPort}
+pub use Rattle.iox2_dynamic.specs.declared.dynamic_config.answers.PortCleanupAction.{PortCleanupAction}
+pub use Rattle.iox2_dynamic.specs.declared.dynamic_config.answers.PortCleanupAction.TheVariants.{RemovePort, SkipPort}
 pub use Rattle.iox2_dynamic.specs.declared.dynamic_config.port_details.PortDetails.{PortDetails}
 pub use Rattle.iox2_ids.specs.Packing.{hexadecimal}
 pub use Rattle.iox2_ids.specs.PortId.{port_value}

@@ -1,7 +1,7 @@
 -- The replies to adds: to registering a node, and to attaching a port.
 use Rattle.service_conformance.proofs.Prelude.{Bool, None, Ok, Option, Some, false, refl, subst, sym, true, ℕ, ◌∙◌, ◌≡◌, Err, Result, arith}
 use Rattle.service_conformance.proofs.Names.{AddStep, Allows, ArePossible, quiet, ContainerAddFailure, IsFull, IsLocked, IsSameReply, IsService, LineReply, OutOfSpace, Refuses, Reply, ServesRegister, Service, TakesEntry, container, possible_add, reply_in, Adds, AddsPort, Handle, HasRole, IsOpenFor, PortDetails, ServesAdd, Side, entries_of_node, node_of, part_at, ports_at, role_at, role_of, with_ports_at}
-use Rattle.iox2_dynamic.proofs.Keeping.{register_kept}
+use Rattle.iox2_dynamic.proofs.Keeping.{register_kept, attach_kept}
 use Rattle.service_descriptions.specs.declared.replay.machine.reply.Reply.TheVariants as reply
 use Rattle.service_conformance.specs.declared.conformance.possible.Part.TheVariants as part
 use Rattle.service_conformance.specs.declared.conformance.line_reply.LineReply.TheVariants as line
@@ -10,7 +10,6 @@ use Rattle.service_conformance.specs.declared.conformance.possible.Possible.TheV
 use Rattle.service_conformance.proofs.Adds.{can_give, no_room, was_given}
 use Rattle.service_conformance.proofs.Quiet.{untouching}
 use Rattle.iox2_dynamic.specs.declared.dynamic_config.answers.AttachError.TheVariants as refusal
-use Rattle.iox2_dynamic.proofs.Moving.{attach_kept}
 use Rattle.service_conformance.proofs.Sides.{given_at, has_role, lacks, may_give_at, ports_are, steps_at}
 use Rattle.service_conformance.proofs.Taking.{Takes, of_ports, taken_at}
 

@@ -2,9 +2,8 @@
 use Rattle.service_conformance.proofs.Prelude.{Bool, List, Ok, Some, ap, arith, drop, get_or, get_or_from_slice_get, length, refl, remove, slice_get_within, split_at, subst, suc, sym, take, ℕ, ◌++◌, ◌+◌, ◌<◌, ◌∙◌, ◌∷◌, ◌≡◌}
 use Rattle.service_conformance.proofs.Names.{Entry, Handle, HasAt, HasEntry, InsertsOne, IsAt, IsRegistry, RegistryState, ReleaseMode, ReleaseState, RemoveStep, StandsAt, handle_of, lock_after, release_state, with_left}
 use Rattle.std.specs.Prelude.{slice_get}
-use Rattle.iox2_container.proofs.Gaining.{length-InsertsOne}
-use Rattle.iox2_container.proofs.Keeping.{kept_remove, All-loss}
-use Rattle.iox2_container.proofs.Removing.{nothing_left, locks_empty}
+use Rattle.iox2_container.proofs.Lists.{length-InsertsOne}
+use Rattle.iox2_container.proofs.Keeping.{kept_remove, All-loss, nothing_left, locks_empty}
 use Rattle.service_conformance.proofs.Rising.{one_gone}
 
 pub has_handle : {T : Type 0} (r : RegistryState T) (handle : Handle) (x : Entry T)

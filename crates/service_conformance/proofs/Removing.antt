@@ -2,11 +2,10 @@
 use Rattle.service_conformance.proofs.Prelude.{Bool, List, Ok, Some, ap, arith, eq-eqb, false, length, nat_eq, ne_eqb, refl, suc, sym, true, zero, ℕ, ◌+◌, ◌∙◌, ◌≡◌, false_from_ne_true, Err, Result, inl, inr}
 use Rattle.service_conformance.proofs.Names.{ArePossible, quiet, DeregisterNodeState, Entry, Handle, HasEntry, InsertsOne, IsRegistry, IsService, IsUnknownHandle, LockIfLastIndex, RegistryState, ReleaseState, RemoveStep, Removes, Reply, ServesDeregister, Service, container, is_last_of_ports, lock_after, release_state, reply_in, reply_of_owners, reply_of_state, state_of, with_left, ContainerHandleNotOwnedByContainer, ContainerRemoveError, Default, PortDetails, RemovesFrom, RemovesPort, ServesRelease, Side, first_role, ports_at, role_at, second_role, with_ports_at}
 use Rattle.iox2_container.specs.declared.container.release.ReleaseState.TheVariants as state
-use Rattle.iox2_container.proofs.Gaining.{length-InsertsOne}
-use Rattle.iox2_container.proofs.Handles.{not_foreign}
-use Rattle.iox2_container.proofs.Members.{one_by_ticket}
+use Rattle.iox2_container.proofs.Lists.{length-InsertsOne, one_by_ticket}
+use Rattle.iox2_container.proofs.Keeping.{not_foreign}
 use Rattle.iox2_dynamic.specs.declared.dynamic_config.answers.DeregisterNodeState.TheVariants as nodes
-use Rattle.iox2_dynamic.proofs.Keeping.{leaving_kept}
+use Rattle.iox2_dynamic.proofs.Keeping.{leaving_kept, release_kept}
 use Rattle.service_descriptions.specs.declared.replay.machine.reply.Reply.TheVariants as reply
 use Rattle.service_conformance.specs.declared.conformance.line_reply.LineReply.TheVariants as line
 use Rattle.service_conformance.specs.declared.conformance.seen_reply.ReplyWord.TheVariants as word
@@ -14,7 +13,6 @@ use Rattle.service_conformance.specs.declared.conformance.possible.Possible.TheV
 use Rattle.service_conformance.proofs.Possibles.{alone, not_both}
 use Rattle.service_conformance.proofs.Quiet.{untouching}
 use Rattle.service_conformance.proofs.Removes.{can_remove}
-use Rattle.iox2_dynamic.proofs.Moving.{release_kept}
 use Rattle.service_conformance.proofs.Sides.{has_role, lacks, ports_are, steps_at}
 use Rattle.service_conformance.proofs.Taking.{Takes, of_ports, taken_at}
 

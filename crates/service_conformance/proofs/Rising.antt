@@ -1,7 +1,7 @@
 -- Lists of entries by rising slot.
 use Rattle.service_conformance.proofs.Prelude.{All, All-head, All-tail, AllPairs, AllPairs-cons, Err, HoldsAt, IfNone, IfSome, IsBinarySearchResult, IsSearchInRange, List, MatchOption, None, Ok, Option, Result, Some, [], ap, arith, cases_lt, get_or, get_or-drop, get_or-take, inl, inr, length, length-drop, length-take, nat_cmp, nat_tests, ordering_index, ranked, result_err, slice_get_cases, subst, sym, ℕ, ◌++◌, ◌+◌, ◌<◌, ◌∷◌, ◌≡◌, ◌≢◌, ◌≤◌, false_from_ne_true, if◌then◌else◌, lt-ltb, ltb-true, nat_lt, refl, ◌∙◌}
 use Rattle.service_conformance.proofs.Names.{Entry, HasAt, IsAt, IsFreePosition, InsertsOne}
-use Rattle.iox2_container.proofs.Gaining.{AllPairs-head, AllPairs-tail, All-back, All-put}
+use Rattle.iox2_container.proofs.Lists.{AllPairs-head, AllPairs-tail, All-back, All-put}
 
 -- the entries stand by rising slot
 abbrev pub Rise : {T : Type 0} → List (Entry T) → Type 0

@@ -4,7 +4,7 @@ use Rattle.std.proofs.lemmas.Bool.{cases_eq}
 use Rattle.service_conformance.proofs.Names.{AddStep, ByPort, Command, Entry, First, Handle, IsCovered, IsService, PortDetails, RegistryState, Reply, Second, Serves, ServesDeregister, ServesRelease, Service, Side, named, ports_at, quiet, role_of, slot_entry}
 use Rattle.service_descriptions.specs.declared.replay.machine.command.Command.TheVariants as command
 use Rattle.service_descriptions.specs.declared.replay.machine.reply.Reply.TheVariants as reply
-use Rattle.iox2_container.proofs.Gaining.{All-back}
+use Rattle.iox2_container.proofs.Lists.{All-back}
 use Rattle.iox2_container.proofs.Keeping.{All-gain}
 use Rattle.service_conformance.proofs.Taking.{Takes, at_side, of_ports, taken_at}
 

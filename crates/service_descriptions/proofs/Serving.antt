@@ -18,7 +18,7 @@ use Rattle.iox2_dynamic.specs.Service.{IsPortRegistry, role_at}
 use Rattle.service_descriptions.specs.declared.replay.machine.command.Command.TheVariants as command
 use Rattle.service_descriptions.specs.declared.replay.machine.command.MessagePart.{MessagePart}
 use Rattle.service_descriptions.specs.declared.replay.machine.reply.Reply.TheVariants as reply
-use Rattle.iox2_container.proofs.Growing.{Grows, grows_same, grows_add, grows_remove, grows_recover}
+use Rattle.iox2_container.proofs.Histories.{Grows, grows_same, grows_add, grows_remove, grows_recover}
 use Rattle.std.proofs.lemmas.List.Quantifiers.{all_pairs_push}
 use Rattle.service_descriptions.specs.declared.replay.machine.reply.LineAnswer.{LineAnswer}
 use Rattle.service_descriptions.specs.declared.replay.machine.reply.LineAnswer.TheVariants as answer

@@ -4,7 +4,7 @@ pub use Rattle.iox2_dynamic.specs.Details.{node_of, port_of, role_of}
 pub use Rattle.iox2_dynamic.specs.Ports.{CountsIn, OfRole, Ports}
 pub use Rattle.iox2_dynamic.specs.Prelude.{ContainerState, Handle, PatternKind, Role, UniquePortId, listed}
 pub use Rattle.iox2_dynamic.specs.declared.dynamic_config.answers.DeregisterNodeState.{DeregisterNodeState}
-pub use Rattle.iox2_dynamic.specs.declared.dynamic_config.cleanup.PortCleanupAction.{PortCleanupAction}
+pub use Rattle.iox2_dynamic.specs.declared.dynamic_config.answers.PortCleanupAction.{PortCleanupAction}
 pub use Rattle.iox2_dynamic.specs.declared.dynamic_config.port_details.PortDetails.{PortDetails}
 pub use Rattle.iox2_dynamic.specs.Service.{HasRole, IsService, LacksRole, PatternCapacities, Service, first_role, fresh_service, second_role}
 pub use Rattle.iox2_dynamic.specs.Steps.{AttachStep, DeadStep, DeregisterStep, RegisterStep, ReleaseStep}

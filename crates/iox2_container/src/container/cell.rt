@@ -3,7 +3,7 @@ ghost use Rattle.std.specs.Prelude.{◌≡◌, ◌==◌, ◌≢◌, MatchOption,
 ghost use Rattle.iox2_container.specs.Cells.{occupant, shown};
 ghost use Rattle.iox2_container.specs.Passes.{CellHas, cell_is_of};
 
-use super::attached::Attached;
+use super::registry::Attached;
 use iox2_ids::identifiers::UniqueNodeId;
 
 /// Whether two numbers are equal. Where this is inlined, both halves are compared at once again.

@@ -1,23 +1,53 @@
 //! One list of calls on two registries.
-ghost use Rattle.std.specs.Prelude.{◌≡◌, ◌<◌, [], IsTrue, IfOk, OnErr, OnOk, length};
+ghost use Rattle.std.specs.Prelude.{◌≡◌, ◌↔◌, ◌<◌, [], IsTrue, IfOk, OnErr, OnOk, count_by, length};
+ghost use Rattle.std.specs.List.{AllZip};
 ghost use Rattle.iox2_container.specs.State.{IsRegistry};
 ghost use Rattle.iox2_container.specs.Steps.{is_of};
 ghost use Rattle.iox2_container.specs.Histories.{IsNew};
 ghost use Rattle.iox2_container.specs.Calls.{Answered, CallStep, Made, RecoversBut, SameKind};
 ghost use Rattle.iox2_container.specs.Calls.{handle_given};
+ghost use Rattle.iox2_container.specs.Calls.{AgreesBy, EquallyMany};
 
-mod agreement;
-mod calls;
-
-use super::attached::Attached;
 use super::handle::ContainerHandle;
-use super::listing::entries;
-use super::registry::Registry;
+use super::refusal::ContainerAddFailure;
+use super::registry::{Attached, Registry, entries};
 use super::release::{ReleaseMode, ReleaseState};
-use agreement::is_same_kind;
-pub use calls::{RegistryCall, RegistryReply};
 use iox2_ids::identifiers::UniqueNodeId;
 use std::alloc::{AllocError, Global};
+
+/// A call on a registry. In a list of calls each one is named by its index.
+#[derive(Debug, Drop)]
+pub enum RegistryCall<T: Copy> {
+    /// Adds an entry with these details.
+    Add(T),
+    /// Removes the entry whose handle the earlier call with this number gave.
+    Remove(usize, ReleaseMode),
+    /// Recovers the entries of a dead node, but keeps those whose key is in the list.
+    Recover(UniqueNodeId, Vec<u128>, ReleaseMode),
+    /// Lists the details of all entries by rising slot.
+    List,
+    /// Counts the entries.
+    Len,
+}
+
+/// What a registry replied to a [`RegistryCall`].
+#[derive(Debug, Drop, PartialEq, Eq)]
+pub enum RegistryReply<T: Copy> {
+    /// An add gave this handle.
+    Handle(ContainerHandle),
+    /// An add was refused.
+    Refused(ContainerAddFailure),
+    /// A removal or a recovery left the registry locked or not.
+    State(ReleaseState),
+    /// A removal was refused, since its handle is not one of the registry's.
+    NotOwned,
+    /// A removal named a call that is not an earlier one or that gave no handle.
+    NoHandle,
+    /// The details of all entries by rising slot.
+    Entries(Vec<T>),
+    /// How many entries there are.
+    Count(usize),
+}
 
 /// The handle that call `k` gave.
 fn given<T: Copy>(earlier: &[RegistryReply<T>], k: usize) -> Option<ContainerHandle>
@@ -113,6 +143,55 @@ fn serve_both<T: Attached + Copy, A: Registry<T>, B: Registry<T>>(
     replies_a.push_reserved(one);
     replies_b.push_reserved(other);
     Ok(())
+}
+
+/// How many of the items equal this one.
+fn count_of<T: Eq>(items: &[T], item: &T) -> usize
+    ensures { result ≡ count_by (T.eq item.now) items.now }
+{
+    items.iter().filter(|other| item == *other).count()
+}
+
+/// Whether the lists have the same items, whatever their order.
+fn is_permutation<T: Eq>(ones: &[T], others: &[T]) -> bool
+    ensures { IsTrue result ↔ EquallyMany T.eq ones.now others.now }
+{
+    ones.len() == others.len()
+        && ones
+            .iter()
+            .all(|item| count_of(ones, item) == count_of(others, item))
+}
+
+/// Whether the replies are the same, but for handles and the order of listings.
+fn is_same_reply<T: Copy + Eq>(one: &RegistryReply<T>, other: &RegistryReply<T>) -> bool
+    ensures { IsTrue result ↔ AgreesBy T.eq one.now other.now }
+{
+    match (one, other) {
+        (RegistryReply::Handle(_), RegistryReply::Handle(_)) => true,
+        (RegistryReply::Entries(ones), RegistryReply::Entries(others)) => {
+            is_permutation(ones, others)
+        }
+        _ => one == other,
+    }
+}
+
+/// Whether the replies are the same in turn.
+fn is_same_kind<T: Copy + Eq>(ones: &[RegistryReply<T>], others: &[RegistryReply<T>]) -> bool
+    ensures { IsTrue result ↔ AllZip (AgreesBy T.eq) ones.now others.now }
+{
+    let mut ones_left = ones;
+    let mut others_left = others;
+    while let Some((one, ones_rest)) = ones_left.split_first() {
+        let Some((other, others_rest)) = others_left.split_first() else {
+            return false;
+        };
+        if !is_same_reply(one, other) {
+            return false;
+        }
+        ones_left = ones_rest;
+        others_left = others_rest;
+    }
+    others_left.is_empty()
 }
 
 /// Makes the same calls on two new registries of the same capacity and number of tickets; their

@@ -7,11 +7,11 @@ ghost use Rattle.iox2_container.specs.ContainerState.{fresh};
 ghost use Rattle.iox2_container.specs.State.{IsRegistry};
 ghost use Rattle.iox2_container.specs.Steps.{details_where, is_of, lock_after, release_state};
 
-use super::attached::Attached;
 use super::free::SlotAllocator;
 use super::handle::ContainerHandle;
 use super::passes::{sweep, take_out};
 use super::refusal::{ContainerAddFailure, ContainerRemoveError};
+use super::registry::Attached;
 use super::release::{ReleaseMode, ReleaseState};
 use super::role::Role;
 use super::slots::EntrySlots;
@@ -74,7 +74,7 @@ impl<T: Copy, S: SlotAllocator<T>> Model for CountedMap<T, S> {
     ghost use Rattle.std.specs.Prelude.{map};
     ghost use Rattle.iox2_container.specs.Cells.{shown};
     ghost use Rattle.iox2_container.specs.ContainerState.{ContainerState};
-    ghost use Rattle.iox2_container.specs.HeaderAndSlots.{registry_of, AreRegistry};
+    ghost use Rattle.iox2_container.specs.SlotEntries.{registry_of, AreRegistry};
 
     ghost Value = { ContainerState T };
 
@@ -120,7 +120,7 @@ impl<T: Copy, S: SlotAllocator<T>> CountedMap<T, S> {
 
 impl<T: Attached + Copy, S: SlotAllocator<T>> CountedMap<T, S> {
     /// Adds an entry, as [`Registry::add`](super::registry::Registry::add) says.
-    #[tactic(auto, using(crate::proofs::Adding::slots_of_add))]
+    #[tactic(auto, using(crate::proofs::Keeping::slots_of_add))]
     pub(super) fn add(&mut self, details: T) -> Result<ContainerHandle, ContainerAddFailure>
         ensures known { IsRegistry self.old.registry }
         ensures adds { Adds self.old details result self.new }

@@ -23,6 +23,9 @@ pub trait SlotAllocator<T: Copy>: Drop {
     /// The most touches of a put, by the number of slots.
     ghost most_for_put: { ℕ → ℕ };
 
+    /// Which of the free slots a put takes, and what it keeps of the others.
+    ghost puts: { Self → List (Cell T Self.Next) → ℕ → Self → List (Cell T Self.Next) → Type 0 };
+
     /// The allocator for any number of free slots, and what each of them keeps.
     fn all_free() -> (Self, Self::Next)
         ensures { (n : ℕ) → fits result.0 (replicate n (Free result.1)) };
@@ -40,6 +43,7 @@ pub trait SlotAllocator<T: Copy>: Drop {
             < length slots.old.cells }
         ensures fits { fits self.new slots.new.cells }
         ensures free { slice_get (map shown slots.old.cells) result ≡ Some None }
+        ensures chosen { puts self.old slots.old.cells result self.new slots.new.cells }
         ensures cells { map shown slots.new.cells ≡
             slice_set (map shown slots.old.cells) result (Some (occupant ticket details)) }
         ensures touched { slots.new.touches ≤ slots.old.touches + 2 * length slots.old.cells }
@@ -76,7 +80,9 @@ impl<T: Copy> SlotAllocator<T> for FreeList {
 
     ghost most_for_put = { λ n. 2 };
 
-    #[tactic(auto, using(crate::proofs::SlotAllocator::threaded_new))]
+    ghost puts = { PutsFirst };
+
+    #[tactic(auto, using(crate::proofs::FreeList::threaded_new))]
     fn all_free() -> (Self, Option<usize>)
         ensures fits { (n : ℕ) → IsFreeList {T = T} result.0 (replicate n (Free result.1)) }
         ensures none_freed { (n : ℕ) → AreFreed {T = T} result.0 (replicate n (Free result.1)) [] }
@@ -94,20 +100,7 @@ impl<T: Copy> SlotAllocator<T> for FreeList {
     }
 
     /// Puts an entry into the slot that was freed last, or else into the first that was never used.
-    fn put(&mut self, slots: &mut LinkedSlots<T>, ticket: u64, details: T) -> usize
-        requires fits { IsFreeList self.old slots.old.cells }
-        requires room { length (entries_from 0 (map shown slots.old.cells))
-            < length slots.old.cells }
-        ensures fits { IsFreeList self.new slots.new.cells }
-        ensures free { slice_get (map shown slots.old.cells) result ≡ Some None }
-        ensures cells { map shown slots.new.cells ≡
-            slice_set (map shown slots.old.cells) result (Some (occupant ticket details)) }
-        ensures last_freed { PutsFirst self.old slots.old.cells
-            result self.new slots.new.cells }
-        ensures touched { slots.new.touches ≤ slots.old.touches + 2 * length slots.old.cells }
-        ensures few { slots.new.touches ≤ slots.old.touches + 2 }
-        ensures counted { slots.old.touches ≤ slots.new.touches }
-    {
+    fn put(&mut self, slots: &mut LinkedSlots<T>, ticket: u64, details: T) -> usize {
         // For the proof: the number of slots fits a `usize`.
         let _fits = slots.len();
         let slot = match self.head {
@@ -129,7 +122,7 @@ impl<T: Copy> SlotAllocator<T> for FreeList {
     }
 
     /// Takes the entry out of a slot, which is then the next to be used.
-    #[tactic(auto, using(crate::proofs::ShownCells::writes))]
+    #[tactic(auto, using(crate::proofs::CellEntries::writes))]
     fn clear(&mut self, slots: &mut LinkedSlots<T>, slot: usize)
         requires fits { IsFreeList self.old slots.old.cells }
         requires taken { IsTakenAt (map shown slots.old.cells) slot }
@@ -157,6 +150,9 @@ impl<T: Copy> SlotAllocator<T> for LowestFree {
 
     ghost most_for_put = { λ n. n + 1 };
 
+    ghost puts = { λ _ cells slot _ _. (k : ℕ) → k < slot
+        → slice_get (map shown cells) k ≢ Some None };
+
     fn all_free() -> (Self, ()) {
         (LowestFree, ())
     }
@@ -166,22 +162,8 @@ impl<T: Copy> SlotAllocator<T> for LowestFree {
     }
 
     /// Puts an entry into the lowest free slot.
-    #[tactic(auto, using(crate::proofs::ShownCells::writes))]
-    fn put(&mut self, slots: &mut EntrySlots<T, ()>, ticket: u64, details: T) -> usize
-        requires fits { Unit {0} }
-        requires room { length (entries_from 0 (map shown slots.old.cells))
-            < length slots.old.cells }
-        ensures fits { Unit {0} }
-        ensures free { slice_get (map shown slots.old.cells) result ≡ Some None }
-        ensures lowest { (k : ℕ) → k < result
-            → slice_get (map shown slots.old.cells) k ≢ Some None }
-        ensures cells { map shown slots.new.cells ≡
-            slice_set (map shown slots.old.cells) result (Some (occupant ticket details)) }
-        ensures touched { slots.new.touches ≤ slots.old.touches + 2 * length slots.old.cells }
-        ensures few { slots.new.touches ≤
-            slots.old.touches + (length slots.old.cells + 1) }
-        ensures counted { slots.old.touches ≤ slots.new.touches }
-    {
+    #[tactic(auto, using(crate::proofs::CellEntries::writes))]
+    fn put(&mut self, slots: &mut EntrySlots<T, ()>, ticket: u64, details: T) -> usize {
         for slot in 0..slots.len() {
             if slots.look(slot).is_none() {
                 slots.write(slot, Cell::Taken { ticket, details });
@@ -191,7 +173,7 @@ impl<T: Copy> SlotAllocator<T> for LowestFree {
         unreachable!()
     }
 
-    #[tactic(auto, using(crate::proofs::ShownCells::writes))]
+    #[tactic(auto, using(crate::proofs::CellEntries::writes))]
     fn clear(&mut self, slots: &mut EntrySlots<T, ()>, slot: usize) {
         slots.write(slot, Cell::Free(()));
     }

@@ -8,10 +8,10 @@ ghost use Rattle.iox2_container.specs.Callbacks.{CanBeCalled};
 ghost use Rattle.iox2_container.specs.Passes.{AreOthers, IsNextOf, Swept, looked_at};
 ghost use Rattle.iox2_container.specs.Steps.{candidates, is_of};
 
-use super::attached::Attached;
 use super::cell::with_ticket;
 use super::free::SlotAllocator;
 use super::handle::ContainerHandle;
+use super::registry::Attached;
 use super::slots::EntrySlots;
 use iox2_ids::identifiers::UniqueNodeId;
 

@@ -9,10 +9,10 @@ ghost use Rattle.iox2_container.specs.Passes.{AreOthers, CalledOnCell, IsLastOf,
 ghost use Rattle.iox2_container.specs.Passes.{TakesCell};
 ghost use Rattle.iox2_container.specs.Steps.{Visit, candidates, is_of};
 
-use super::attached::Attached;
 use super::cell::{Occupant, with_ticket};
 use super::handle::ContainerHandle;
 use super::passes::call;
+use super::registry::Attached;
 use super::slot_map::Looks;
 use super::slots::EntrySlots;
 use iox2_ids::identifiers::UniqueNodeId;

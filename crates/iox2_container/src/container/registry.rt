@@ -1,5 +1,6 @@
-//! The contract of a registry, on which everything above rests.
-ghost use Rattle.std.specs.Prelude.{◌≡◌, ℕ, ◌+◌, ◌≤◌, ◌↔◌, IsTrue, MatchOption, length, nat_lt};
+//! The contract of a registry, on which everything above rests, and of the details in it.
+ghost use Rattle.std.specs.Prelude.{◌≡◌, ℕ, ◌+◌, ◌≤◌, ◌<◌, ◌↔◌, ◌++◌, ◌∷◌, [], IfOk, IsTrue, MatchOption};
+ghost use Rattle.std.specs.Prelude.{length, nat_lt, vec_capacity, vec_len};
 ghost use Rattle.std.specs.Fn.{CalledAt, TakesAt};
 ghost use Rattle.iox2_container.specs.Callbacks.{CanBeCalled, CanVisit};
 ghost use Rattle.iox2_container.specs.Changes.{Adds, Removes, RecoversBy};
@@ -8,12 +9,45 @@ ghost use Rattle.iox2_container.specs.State.{IsRegistry};
 ghost use Rattle.iox2_container.specs.Steps.{IsUnknownHandle, HasEntry, TakesEntry, Visit};
 ghost use Rattle.iox2_container.specs.Steps.{details_where, entries_of, is_of, listed};
 
-use super::attached::Attached;
 use super::handle::ContainerHandle;
 use super::refusal::{ContainerAddFailure, ContainerRemoveError};
 use super::release::{ReleaseMode, ReleaseState};
 use iox2_ids::identifiers::UniqueNodeId;
 use iox2_texts::bounded::CallbackProgression;
+use std::alloc::{AllocError, Global};
+
+/// Details of something that is attached to a service. Its key and its node are functions of the
+/// value alone.
+pub trait Attached {
+    /// The number of the node's id.
+    ghost node: { Self → ℕ };
+
+    /// The number of its own id.
+    ghost number: { Self → ℕ };
+
+    /// The id of the node that it belongs to.
+    fn node_id(&self) -> UniqueNodeId
+        ensures { result ≡ node self.now };
+
+    /// The number of its own id.
+    fn key(&self) -> u128
+        ensures { result ≡ number self.now };
+}
+
+/// A node belongs to itself.
+impl Attached for UniqueNodeId {
+    ghost node = { λ id. id };
+
+    ghost number = { λ id. id };
+
+    fn node_id(&self) -> UniqueNodeId {
+        *self
+    }
+
+    fn key(&self) -> u128 {
+        self.value()
+    }
+}
 
 /// A bounded map from handles, of which none is given twice, to details.
 ///
@@ -130,4 +164,28 @@ pub trait Registry<T: Attached + Copy> {
     fn is_locked(&self) -> bool
         ensures locked { result ≡ (state self.now).registry.locked }
         ensures kept { IsRegistry (state self.now).registry };
+}
+
+/// The details in a registry, by rising slot. It takes memory for exactly that, in one request;
+/// refused where there is no memory for it.
+pub fn entries<T: Attached + Copy, R: Registry<T>>(
+    alloc: Global,
+    registry: &R,
+) -> Result<Vec<T>, AllocError>
+    ensures listed { IfOk result (λ list. list.items ≡ listed (R.state registry.now).registry) }
+    ensures exact { IfOk result (λ list. vec_capacity list ≡ length list.items) }
+{
+    let mut list = Vec::with_capacity(alloc, registry.len())?;
+    let mut put = |details: &T| -> CallbackProgression
+        requires { vec_len list < vec_capacity list }
+        ensures put { list.exit.items ≡ list.entry.items ++ details.now ∷ [] }
+        ensures len { vec_len list.exit ≡ vec_len list.entry + 1 }
+        ensures capacity { vec_capacity list.exit ≡ vec_capacity list.entry }
+        ensures goes_on { result ≡ CallbackProgression.Continue }
+    {
+        list.push_reserved(*details);
+        CallbackProgression::Continue
+    };
+    registry.for_each(&mut put);
+    Ok(list)
 }

@@ -2,13 +2,12 @@
 ghost use Rattle.std.specs.Prelude.{◌≡◌, ◌+◌, IfOk};
 ghost use Rattle.iox2_container.specs.ContainerState.{fresh};
 
-use super::attached::Attached;
 use super::counted_map::CountedMap;
 use super::free::{FreeList, LowestFree, SlotAllocator};
 use super::handle::ContainerHandle;
 use super::queries::{count_of, find, has_entry, visit};
 use super::refusal::{ContainerAddFailure, ContainerRemoveError};
-use super::registry::Registry;
+use super::registry::{Attached, Registry};
 use super::release::{ReleaseMode, ReleaseState};
 use super::role::Role;
 use super::touches::Touches;

@@ -6,8 +6,8 @@ ghost use Rattle.iox2_container.specs.declared.container.cell.Cell.TheVariants.{
 ghost use Rattle.iox2_container.specs.Cells.{shown};
 ghost use Rattle.iox2_container.specs.Passes.{IsAt, SlotIsOf};
 
-use super::attached::Attached;
 use super::cell::{Cell, Occupant};
+use super::registry::Attached;
 use super::slot_map::Looks;
 use super::touches::Touches;
 use iox2_ids::identifiers::UniqueNodeId;

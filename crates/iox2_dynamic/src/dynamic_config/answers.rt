@@ -1,4 +1,4 @@
-//! The results of the calls on a service.
+//! The results of the calls on a service, and of the callback of one of them.
 ghost use Rattle.std.specs.Prelude.{◌≡◌};
 ghost use Rattle.iox2_dynamic.specs.Answers.{state_of};
 
@@ -52,4 +52,13 @@ pub enum AttachError {
     NodeNotRegistered,
     /// There are as many ports of this kind as there may be, or every ticket is used.
     OutOfSpace,
+}
+
+/// What becomes of a port whose node is dead.
+#[derive(Clone, Copy, Debug, PartialEq, Eq)]
+pub enum PortCleanupAction {
+    /// It is removed.
+    RemovePort,
+    /// It stays, and so does its node.
+    SkipPort,
 }

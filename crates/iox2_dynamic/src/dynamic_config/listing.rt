@@ -5,7 +5,7 @@ ghost use Rattle.iox2_container.specs.Callbacks.{CanVisit};
 ghost use Rattle.iox2_container.specs.Steps.{Visit, details_where, entries_of, is_of, listed};
 ghost use Rattle.iox2_container.specs.Mapped.{registry_as};
 ghost use Rattle.iox2_dynamic.specs.Details.{node_of};
-ghost use Rattle.iox2_dynamic.specs.Lists.{PutsIf};
+ghost use Rattle.iox2_dynamic.specs.Ports.{PutsIf};
 
 use super::details::PortKind;
 use super::pattern::ServiceRegistry;

@@ -11,9 +11,8 @@ ghost use Rattle.iox2_dynamic.specs.Ports.{StandsAmong, TakesIn, TouchesFew, por
 ghost use Rattle.iox2_dynamic.specs.Service.{HasRole, LacksRole, first_role, second_role, capacities_in, fresh_ports};
 ghost use Rattle.iox2_dynamic.specs.Steps.{Admits, AttachesTo};
 
-use super::answers::AttachError;
+use super::answers::{AttachError, PortCleanupAction};
 use super::blackboard::DynamicConfig as BlackboardPorts;
-use super::cleanup::PortCleanupAction;
 use super::details::PortKind;
 use super::event::DynamicConfig as EventPorts;
 use super::listing::{append_details_of, details, list_details};

@@ -6,7 +6,7 @@ ghost use Rattle.iox2_container.specs.Steps.{entries_of};
 ghost use Rattle.iox2_dynamic.specs.Recoveries.{CallsCleanup, RecoversPorts, RecoversNodes, ids_of_node};
 ghost use Rattle.iox2_dynamic.specs.Details.{node_of, port_of};
 
-use super::cleanup::PortCleanupAction;
+use super::answers::PortCleanupAction;
 use super::details::PortKind;
 use super::pattern::ServiceRegistry;
 use iox2_container::container::{Registry, ReleaseMode, ReleaseState};

@@ -15,13 +15,13 @@ ghost use Rattle.iox2_dynamic.specs.Service.{capacities_in, fresh_service};
 ghost use Rattle.iox2_dynamic.specs.Steps.{RegisterStep, DeregisterStep, AttachStep, ReleaseStep};
 ghost use Rattle.iox2_dynamic.specs.Steps.{DeadStep, is_last_of_ports};
 
-use super::answers::{AttachError, DeregisterError, DeregisterNodeState, RegisterNodeResult};
-use super::cleanup::PortCleanupAction;
+use super::answers::{
+    AttachError, DeregisterError, DeregisterNodeState, PortCleanupAction, RegisterNodeResult,
+};
 use super::pattern::{MessagingPattern, ServiceRegistry, of_any_pattern};
 use super::port_details::PortDetails;
 use super::recovery::recover_nodes;
-use super::roles::PortRoles;
-use super::settings::MessagingPatternSettings;
+use super::settings::{MessagingPatternSettings, PortRoles};
 use super::{blackboard, event, publish_subscribe, request_response};
 use iox2_config::hash::PatternKind;
 use iox2_container::container::{
@@ -53,7 +53,7 @@ pub struct DynamicConfig {
 }
 
 impl Model for DynamicConfig {
-    ghost use Rattle.iox2_dynamic.specs.Fields.{service_in};
+    ghost use Rattle.iox2_dynamic.specs.Patterns.{service_in};
     ghost use Rattle.iox2_dynamic.specs.Service.{Service, IsService};
 
     ghost Value = { Service };
@@ -97,7 +97,7 @@ impl DynamicConfig {
 
     /// As `new`, but there are this many tickets for nodes in all, and this many for each kind of
     /// ports: each registering and each attaching takes one, and none comes back.
-    #[tactic(auto, using(crate::proofs::Making::new_service))]
+    #[tactic(auto, using(crate::proofs::Keeping::new_service))]
     pub fn with_tickets(
         alloc: Global,
         settings: &MessagingPatternSettings,
@@ -168,7 +168,7 @@ impl DynamicConfig {
     }
 
     /// Whether the pattern has ports of the role.
-    #[tactic(auto, using(crate::proofs::Sides::has_side))]
+    #[tactic(auto, using(crate::proofs::Rooms::has_side))]
     pub fn has_role(&self, role: Role) -> bool
         ensures role { IsTrue result ↔ HasRole self.now.pattern role }
         ensures kept { IsService self.now }

@@ -99,7 +99,7 @@ fn capacities_in(settings: &MessagingPatternSettings) -> (PatternKind, usize, us
 
 impl ServiceCheck {
     /// A new service.
-    #[tactic(auto, using(iox2_dynamic::proofs::Making::fresh_is_service))]
+    #[tactic(auto, using(iox2_dynamic::proofs::Keeping::fresh_is_service))]
     pub fn new(
         alloc: Global,
         settings: &MessagingPatternSettings,

@@ -1,5 +1,5 @@
 -- Each number is above the last one before it.
-use Rattle.iox2_container.proofs.ServiceNumbers.{numbers_rise}
+use Rattle.iox2_container.proofs.Histories.{numbers_rise}
 use Rattle.iox2_container.proofs.laws.service_numbers_rise.Goals as goal
 
 pub returns : goal.returns

@@ -1,7 +1,7 @@
 use Rattle.std.proofs.Common.{rules, ◌^◌, arith}
 use Rattle.std.proofs.lemmas.List.{length-map}
 use Rattle.iox2_container.specs.Steps.{details_where, candidates, is_of}
-use Rattle.iox2_container.proofs.Tallies.{CanBeCalled-counting, tallied}
+use Rattle.iox2_container.proofs.Callable.{CanBeCalled-counting, tallied}
 use Rattle.service_examples.proofs.counting.count_called.Goals as goal
 
 pub recover-requires : goal.recover-requires
@@ -10,11 +10,7 @@ recover-requires g c =
     let is_dead = is_of g.T.Attached.node c.args.node.now in
     CanBeCalled-counting _ _ (λ q. q.0.now) (2 ^ 64) (λ q x i. λ y e. search rules)
     (λ q x r h e. search rules) _ (details_where is_dead registry)
-    (omega (
-      arith,
-      c.entries_of-bound.ensures.count,
-      length-map (candidates is_dead registry.entries) (λ e. e.details),
-    ))
+    (omega (arith, length-map (candidates is_dead registry.entries) (λ e. e.details)))
 
 pub returns : goal.returns
 returns g c =

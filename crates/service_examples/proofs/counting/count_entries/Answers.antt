@@ -1,7 +1,7 @@
 use Rattle.std.proofs.Common.{rules, ◌^◌, arith}
 use Rattle.std.proofs.lemmas.List.{length-map}
 use Rattle.iox2_container.specs.Steps.{listed}
-use Rattle.iox2_container.proofs.Tallies.{CanVisit-counting, tallied_visit}
+use Rattle.iox2_container.proofs.Callable.{CanVisit-counting, tallied_visit}
 use Rattle.service_examples.proofs.counting.count_entries.Goals as goal
 
 pub for_each-requires : goal.for_each-requires

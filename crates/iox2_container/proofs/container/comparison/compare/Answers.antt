@@ -1,6 +1,5 @@
 use Rattle.iox2_container.proofs.Prelude.{AgreesBy, AllZip, arith}
-use Rattle.iox2_container.proofs.Agreeing.{same_kind_agrees}
-use Rattle.iox2_container.proofs.Runs.{one_longer, made_more, made_still, same_made}
+use Rattle.iox2_container.proofs.SameContents.{same_kind_agrees, one_longer, made_more, made_still, same_made}
 use Rattle.iox2_container.proofs.container.comparison.compare.Goals as goal
 
 pub loop-call-preserved : goal.loop-call-preserved

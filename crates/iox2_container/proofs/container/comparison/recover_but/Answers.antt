@@ -1,5 +1,5 @@
 use Rattle.iox2_container.proofs.Prelude.{is_of, is_outside, refl, rules, ◌≡◌}
-use Rattle.iox2_container.proofs.LentCallbacks.{RecoversBy-through}
+use Rattle.iox2_container.proofs.Mapped.{RecoversBy-through}
 use Rattle.iox2_container.proofs.container.comparison.recover_but.Goals as goal
 
 pub returns-clause-step : goal.returns-clause-step

@@ -1,5 +1,5 @@
 use Rattle.iox2_container.proofs.Prelude.{arith, false, if◌then◌else◌, occupant, refl, ◌+◌, ◌≡◌}
-use Rattle.iox2_container.proofs.CellsToCome.{sweep_ends, sweep_next, sweep_past, takes_next}
+use Rattle.iox2_container.proofs.Passes.{sweep_ends, sweep_next, sweep_past, takes_next}
 use Rattle.iox2_container.proofs.container.passes.sweep.Goals as goal
 use Rattle.iox2_container.proofs.container.passes.sweep.Goals.{then-sweep_found, else-sweep_found}
 
@@ -40,14 +40,7 @@ loop-found-preserved g c =
       so_far = sweep_next c.in-Some.ensures.found c.loop-found.invariant.so_far _
           c.sweep_found.new.f c.if-sweep_found.gone goes c.sweep_found.ensures.called
           (rw c.next_of.ensures.cells at c.sweep_found.ensures.cells) gone_is;
-      touches = omega (
-        arith,
-        c.in-Some.ensures.touches,
-        c.in-Some.ensures.found.order,
-        c.sweep_found.ensures.touches,
-        gone_is,
-        c.loop-found.invariant.touches,
-      );
+      touches = omega (arith, c.in-Some.ensures.touches, c.in-Some.ensures.found.order, gone_is);
     }
 
 pub returns-clause-swept : goal.returns-clause-swept

@@ -1,5 +1,5 @@
 use Rattle.iox2_container.proofs.Prelude.{CalledAt, TakesAt, is_of, map, shown, ◌+◌, ◌-◌, ◌≡◌, ◌≤◌}
-use Rattle.iox2_container.proofs.CellsToCome.{HasSwept}
+use Rattle.iox2_container.proofs.Passes.{HasSwept}
 use Rattle.iox2_container.proofs.container.passes.sweep.Given as goal
 
 abbrev pub invariant-loop-found : goal.invariant-loop-found

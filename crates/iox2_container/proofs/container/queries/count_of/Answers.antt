@@ -1,6 +1,7 @@
 use Rattle.iox2_container.proofs.Prelude.{arith, map, shown, ◌+◌, ◌≡◌}
 use Rattle.iox2_container.proofs.CellEntries.{all_before}
-use Rattle.iox2_container.proofs.Counting.{counted_more, few_more, one_if}
+use Rattle.iox2_container.proofs.Counting.{counted_more, one_if}
+use Rattle.iox2_container.proofs.Passes.{few_more}
 use Rattle.iox2_container.proofs.container.queries.count_of.Goals as goal
 use Rattle.iox2_container.proofs.container.queries.count_of.Goals.{then-has_at, else-has_at}
 

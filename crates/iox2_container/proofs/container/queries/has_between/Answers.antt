@@ -9,12 +9,7 @@ pub loop-slot-preserved : goal.loop-slot-preserved
 loop-slot-preserved g c = record {
   order = omega (arith, c.loop-slot-test.true);
   within = omega (arith, c.loop-slot.invariant.within);
-  looks = omega (
-    arith,
-    c.has_at.ensures.looks,
-    c.loop-slot.invariant.looks,
-    c.loop-slot-test.true,
-  );
+  looks = omega arith;
   others = others_join g.T.Attached.node c.args.node.now (map shown c.args.slots.now.cells) _
       c.loop-slot.slot c.loop-slot.slot c.args.end
       (other_at g.T.Attached.node c.args.node.now (map shown c.args.slots.now.cells) _

@@ -1,7 +1,6 @@
 use Rattle.iox2_container.proofs.Prelude.{CalledAt, TakesAt, add-one, arith, entries_from, map, shown}
 use Rattle.iox2_container.proofs.CellEntries.{all_before}
-use Rattle.iox2_container.proofs.CallsInTurn.{details_of, goes_on, stops, ends, not_stop}
-use Rattle.iox2_container.proofs.CellsToCome.{visit_at}
+use Rattle.iox2_container.proofs.Passes.{details_of, goes_on, stops, ends, not_stop, visit_at}
 use Rattle.iox2_container.proofs.container.queries.visit.Goals as goal
 
 pub show-requires : goal.show-requires

@@ -1,6 +1,5 @@
 use Rattle.iox2_container.proofs.Prelude.{CalledAt, MayVisit, TakesAt, entries_from, map, shown, take, ◌+◌, ◌≡◌}
-use Rattle.iox2_container.proofs.CallsInTurn.{details_of, GoesOn}
-use Rattle.iox2_container.proofs.CellsToCome.{details_from}
+use Rattle.iox2_container.proofs.Passes.{details_of, GoesOn, details_from}
 use Rattle.iox2_container.proofs.container.queries.visit.Given as goal
 
 abbrev pub invariant-loop-slot : goal.invariant-loop-slot

@@ -2,9 +2,9 @@ use Rattle.std.proofs.Common.{rules, ◌≡◌, ℕ, ◌+◌, ◌++◌, ◌∙�
 use Rattle.std.specs.Prelude.{filter, ◌==◌}
 use Rattle.std.proofs.lemmas.List.{length-map}
 use Rattle.iox2_dynamic.proofs.Names.{RegistryState, registry_as, details_where, candidates, entries_of, is_of, listed, node_of}
-use Rattle.iox2_container.proofs.Collecting.{CanVisit-collecting, collects}
-use Rattle.iox2_container.proofs.ListEdits.{filter-map}
-use Rattle.iox2_container.proofs.LentCallbacks.{called-as}
+use Rattle.iox2_container.proofs.Callable.{CanVisit-collecting, collects}
+use Rattle.iox2_container.proofs.Lists.{filter-map}
+use Rattle.iox2_container.proofs.Mapped.{called-as}
 use Rattle.iox2_dynamic.proofs.dynamic_config.listing.append_details_of.Goals as goal
 
 -- the details of a node are as many as its entries

@@ -2,8 +2,7 @@ use Rattle.std.proofs.Common.{sym, subst}
 use Rattle.std.specs.Fn.{CalledAt, TakesAt}
 use Rattle.iox2_dynamic.proofs.Names.{CanVisit, Visit, listed}
 use Rattle.iox2_container.proofs.Callable.{CanVisit-lent}
-use Rattle.iox2_container.proofs.LentCallbacks.{Visit-lent}
-use Rattle.iox2_container.proofs.Mapped.{listed-as}
+use Rattle.iox2_container.proofs.Mapped.{Visit-lent, listed-as}
 use Rattle.iox2_dynamic.proofs.dynamic_config.listing.list_details.Goals as goal
 
 pub for_each-requires : goal.for_each-requires

@@ -1,5 +1,5 @@
 use Rattle.std.proofs.Common.{◌≡◌, true}
-use Rattle.iox2_container.proofs.LentCallbacks.{RecoversBy-through}
+use Rattle.iox2_container.proofs.Mapped.{RecoversBy-through}
 use Rattle.iox2_dynamic.proofs.dynamic_config.recovery.recover_nodes.Goals as goal
 
 pub returns : goal.returns

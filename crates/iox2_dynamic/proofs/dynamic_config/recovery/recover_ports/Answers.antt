@@ -4,9 +4,8 @@ use Rattle.std.specs.Prelude.{◌==◌}
 use Rattle.std.specs.Fn.{Called, Takes}
 use Rattle.iox2_dynamic.proofs.Names.{CanBeCalled, details_where, is_of, CallsCleanup, node_of, port_of}
 use Rattle.iox2_container.proofs.Callable.{CanBeCalled-lent}
-use Rattle.iox2_container.proofs.LentCallbacks.{RecoversBy-lent, called-as}
-use Rattle.iox2_dynamic.proofs.Recoveries.{RecoversPorts-as}
-use Rattle.iox2_dynamic.proofs.Skipping.{left_noted}
+use Rattle.iox2_container.proofs.Mapped.{RecoversBy-lent, called-as}
+use Rattle.iox2_dynamic.proofs.Recoveries.{RecoversPorts-as, left_noted}
 use Rattle.iox2_dynamic.proofs.dynamic_config.recovery.recover_ports.Goals as goal
 
 pub recover-requires : goal.recover-requires

@@ -1,5 +1,5 @@
 use Rattle.iox2_container.proofs.Prelude.{arith, length-map, shown}
-use Rattle.iox2_container.proofs.Adding.{kept_write, add_step}
+use Rattle.iox2_container.proofs.Keeping.{kept_write, add_step}
 use Rattle.iox2_container.proofs.container.counted_map.CountedMap.add.Goals as goal
 
 pub invariant_of-self : goal.invariant_of-self

@@ -1,4 +1,4 @@
-use Rattle.iox2_container.proofs.Making.{new_kept, new_is_fresh}
+use Rattle.iox2_container.proofs.Keeping.{new_kept, new_is_fresh}
 use Rattle.iox2_container.proofs.container.counted_map.CountedMap.new.Goals as goal
 
 pub invariant_of-result : goal.invariant_of-result

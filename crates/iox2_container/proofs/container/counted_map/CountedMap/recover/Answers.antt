@@ -1,7 +1,6 @@
 use Rattle.iox2_container.proofs.Prelude.{CalledAt, arith, is_of, length-map, map, shown}
 use Rattle.iox2_container.proofs.CellEntries.{room_from}
-use Rattle.iox2_container.proofs.Recovering.{kept_recover, recovers_none}
-use Rattle.iox2_container.proofs.Removing.{nothing_left}
+use Rattle.iox2_container.proofs.Keeping.{kept_recover, recovers_none, nothing_left}
 use Rattle.iox2_container.proofs.container.counted_map.CountedMap.recover.Goals as goal
 
 pub invariant_of-self : goal.invariant_of-self

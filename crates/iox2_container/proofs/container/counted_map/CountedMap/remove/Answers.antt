@@ -1,6 +1,5 @@
 use Rattle.iox2_container.proofs.Prelude.{arith, length-map, map, refl, shown}
-use Rattle.iox2_container.proofs.Handles.{foreign_by_ticket}
-use Rattle.iox2_container.proofs.Removing.{some_stood, kept_clear, remove_step}
+use Rattle.iox2_container.proofs.Keeping.{foreign_by_ticket, some_stood, kept_clear, remove_step}
 use Rattle.iox2_container.proofs.container.counted_map.CountedMap.remove.Goals as goal
 
 pub leave-requires : goal.leave-requires
@@ -27,13 +26,7 @@ returns-in-Some-clause-removes g c =
           c.args.mode parts.0 parts.1);
       kept = (invariant_of-self g c).0.registry;
       touched = (
-        omega (
-          arith,
-          c.take_out.ensures.touched,
-          parts.2,
-          c.len.ensures,
-          length-map c.self.inside.slots.cells shown,
-        ),
+        omega (arith, parts.2, length-map c.self.inside.slots.cells shown),
         c.take_out.ensures.counted,
       );
     })
@@ -49,13 +42,7 @@ returns-in-None-clause-removes g c =
       );
       kept = c.self.invariant.0.registry;
       touched = (
-        omega (
-          arith,
-          c.take_out.ensures.touched,
-          parts.2,
-          c.len.ensures,
-          length-map c.self.inside.slots.cells shown,
-        ),
+        omega (arith, parts.2, length-map c.self.inside.slots.cells shown),
         c.take_out.ensures.counted,
       );
     }))

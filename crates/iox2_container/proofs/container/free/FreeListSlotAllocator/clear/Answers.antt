@@ -1,5 +1,5 @@
 use Rattle.iox2_container.proofs.Prelude.{arith, rules}
-use Rattle.iox2_container.proofs.SlotAllocator.{threaded_clear, clears_first}
+use Rattle.iox2_container.proofs.FreeList.{threaded_clear, clears_first}
 use Rattle.iox2_container.proofs.container.free.FreeListSlotAllocator.clear.Goals as goal
 
 pub returns-clause-fits : goal.returns-clause-fits

@@ -1,6 +1,5 @@
 use Rattle.iox2_container.proofs.Prelude.{TakesFirst, map-set, refl, rules, ◌≡◌}
-use Rattle.iox2_container.proofs.FreeList.{shown_free}
-use Rattle.iox2_container.proofs.SlotAllocator.{took, threaded_put, puts_first}
+use Rattle.iox2_container.proofs.FreeList.{shown_free, took, threaded_put, puts_first}
 use Rattle.iox2_container.proofs.container.free.FreeListSlotAllocator.put.Goals as goal
 use Rattle.iox2_container.proofs.container.free.FreeListSlotAllocator.put.Goals.{in-Some+in-Free, in-None}
 
@@ -25,7 +24,7 @@ returns g c =
       fits = threaded_put cells new slot left c.args.ticket c.args.details w written;
       free = shown_free cells slot w.at;
       cells = rw (written, map-set) refl;
-      last_freed = puts_first cells old slot left taken.1 new c.args.ticket c.args.details written;
+      chosen = puts_first cells old slot left taken.1 new c.args.ticket c.args.details written;
       touched = search rules;
       few = search rules;
       counted = search rules;

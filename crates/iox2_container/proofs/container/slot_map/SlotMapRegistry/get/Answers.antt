@@ -1,5 +1,5 @@
 use Rattle.iox2_container.proofs.Prelude.{map, shown}
-use Rattle.iox2_container.proofs.Handles.{names}
+use Rattle.iox2_container.proofs.Keeping.{names}
 use Rattle.iox2_container.proofs.container.slot_map.SlotMapRegistry.get.Goals as goal
 
 pub returns-clause-details : goal.returns-clause-details

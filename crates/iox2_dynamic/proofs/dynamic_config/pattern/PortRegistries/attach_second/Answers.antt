@@ -1,6 +1,6 @@
 use Rattle.std.proofs.Common.{Ok, Err, refl, sym}
 use Rattle.iox2_container.proofs.Mapped.{Adds-as}
-use Rattle.iox2_dynamic.proofs.Attaching.{attaches, is_full}
+use Rattle.iox2_dynamic.proofs.Rooms.{attaches, is_full}
 use Rattle.iox2_dynamic.proofs.Names.{Second, Admits, node_of}
 use Rattle.iox2_dynamic.proofs.dynamic_config.pattern.PortRegistries.attach_second.Goals as goal
 use Rattle.iox2_dynamic.proofs.dynamic_config.pattern.PortRegistries.attach_second.Goals.{in-Ok, in-Err}

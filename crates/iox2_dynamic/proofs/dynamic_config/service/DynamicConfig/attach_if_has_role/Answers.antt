@@ -1,4 +1,4 @@
-use Rattle.iox2_dynamic.proofs.Moving.{attached_kept}
+use Rattle.iox2_dynamic.proofs.Keeping.{attached_kept}
 use Rattle.iox2_dynamic.proofs.dynamic_config.service.DynamicConfig.attach_if_has_role.Goals as goal
 
 pub invariant_of-self : goal.invariant_of-self

@@ -1,5 +1,5 @@
 use Rattle.std.proofs.Common.{sym, ◌∙◌}
-use Rattle.iox2_container.proofs.Handles.{not_foreign}
+use Rattle.iox2_container.proofs.Keeping.{not_foreign}
 use Rattle.iox2_dynamic.proofs.Keeping.{leaving_kept}
 use Rattle.iox2_dynamic.proofs.dynamic_config.service.DynamicConfig.deregister_node_id.Goals as goal
 

@@ -1,8 +1,7 @@
 use Rattle.std.proofs.Common.{rules, ◌≡◌, true, false, sym, ap}
 use Rattle.std.specs.Fn.{Called}
 use Rattle.iox2_dynamic.proofs.Names.{PatternKind, release_state, service_in, has_ports_of, Service}
-use Rattle.iox2_dynamic.proofs.Keeping.{ports_open}
-use Rattle.iox2_dynamic.proofs.Dying.{skipped_kept, dead_kept, nodes_stay, nodes_after}
+use Rattle.iox2_dynamic.proofs.Keeping.{ports_open, skipped_kept, dead_kept, nodes_stay, nodes_after}
 use Rattle.iox2_dynamic.proofs.dynamic_config.service.DynamicConfig.remove_dead_node_id.Goals as goal
 
 pub recover-requires : goal.recover-requires

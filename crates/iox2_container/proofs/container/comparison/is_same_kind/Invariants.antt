@@ -1,5 +1,5 @@
 use Rattle.iox2_container.proofs.Prelude.{AgreesBy, AllZip, length, ◌↔◌}
-use Rattle.iox2_container.proofs.container.comparison.agreement.is_same_kind.Given as goal
+use Rattle.iox2_container.proofs.container.comparison.is_same_kind.Given as goal
 
 abbrev pub invariant-loop-one : goal.invariant-loop-one
 invariant-loop-one g l =

@@ -1,8 +1,8 @@
 use Rattle.iox2_container.proofs.Prelude.{count_by, eqb, rules}
 use Rattle.std.proofs.lemmas.Iterator.{YieldsList-from_slice}
 use Rattle.std.proofs.lemmas.Iterator.Search.{all_from_yields_List}
-use Rattle.iox2_container.proofs.Agreeing.{counts_equally_many}
-use Rattle.iox2_container.proofs.container.comparison.agreement.is_permutation.Goals as goal
+use Rattle.iox2_container.proofs.SameContents.{counts_equally_many}
+use Rattle.iox2_container.proofs.container.comparison.is_permutation.Goals as goal
 
 pub returns-then-ones-others : goal.returns-then-ones-others
 returns-then-ones-others g c =
