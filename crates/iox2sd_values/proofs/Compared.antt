@@ -1,5 +1,5 @@
 -- A comparison of services has one answer.
-use Rattle.iox2sd_values.proofs.Prelude.{ComparesAlike, Err, HasOneAnswer, None, Ok, Option, Result, Some, [], ap, arith, nat_eq, option_eq, option_map, refl, sym, true, true≢false, ℕ, ◌∙◌, ◌∷◌, ◌≡◌, ◌≤◌}
+use Rattle.iox2sd_values.proofs.Prelude.{ComparesAlike, Err, HasOneAnswer, None, Ok, Option, Some, [], ap, arith, nat_eq, option_eq, option_map, refl, sym, true, true≢false, ℕ, ◌∙◌, ◌∷◌, ◌≡◌, ◌≤◌}
 use Rattle.std.specs.Duration.{as_nanos}
 use Rattle.std.specs.declared.time.Duration.{Duration}
 use Rattle.iox2_config.specs.declared.config.event.Event.{Event as Settings}
@@ -12,21 +12,19 @@ use Rattle.iox2sd_common.specs.declared.read_settings.Field.TheVariants as field
 use Rattle.iox2sd_common.specs.declared.settings.OptionalDuration.{OptionalDuration}
 use Rattle.iox2sd_values.specs.Prelude.{EventConfig, EventSettings, Field, FieldAnswer}
 use Rattle.iox2sd_values.specs.Descriptions.{c_publish_subscribe, c_request_response, c_blackboard}
-use Rattle.iox2sd_values.specs.Satisfies.{ComparesEvents, ReadsFixed, SatisfiesBy, SatisfiesEvent, fixed_publish_subscribe, fixed_request_response, fixed_blackboard, satisfied, settings_of}
+use Rattle.iox2sd_values.specs.Satisfies.{ComparesEvents, ReadsFixed, SatisfiesBy, SatisfiesEvent, satisfied, settings_of}
 
-pub publish_subscribes :
-    ComparesAlike c_publish_subscribe fixed_publish_subscribe publish_subscribe_requirements
+pub publish_subscribes : ComparesAlike c_publish_subscribe publish_subscribe_requirements
 unfolding publish_subscribe_requirements
-publish_subscribes service required = refl
+publish_subscribes s r service required same alike = grind (arith, same, alike)
 
-pub request_responses :
-    ComparesAlike c_request_response fixed_request_response request_response_requirements
+pub request_responses : ComparesAlike c_request_response request_response_requirements
 unfolding request_response_requirements
-request_responses service required = refl
+request_responses s r service required same alike = grind (arith, same, alike)
 
-pub blackboards : ComparesAlike c_blackboard fixed_blackboard blackboard_requirements
+pub blackboards : ComparesAlike c_blackboard blackboard_requirements
 unfolding blackboard_requirements
-blackboards service required = refl
+blackboards s r service required same alike = grind (arith, same, alike)
 
 -- where both are given, and one comparison of two has one answer
 where_given : {C : Type 0} (Compares : C → C → FieldAnswer → Type 0)

@@ -9,10 +9,11 @@ use Rattle.iox2sd_values.specs.Prelude.{Attribute, FieldAnswer}
 abbrev pub MakesOneSet : List Attribute → List Pair → Type 0
 MakesOneSet pairs set = IsListing (map pair_of pairs) set × OfSet pairs (λ other. other ≡ set)
 
--- configurations compare as those that are made of their plain values: nothing else counts
-abbrev pub ComparesAlike : {L C R : Type 0} → (L → C) → (C → L) → (L → L → R) → Type 0
-ComparesAlike {L} plain fixed requirements = (service required : L)
-    → requirements service required ≡ requirements (fixed (plain service)) (fixed (plain required))
+-- configurations with the same plain values compare alike: nothing else counts
+abbrev pub ComparesAlike : {L C R : Type 0} → (L → C) → (L → L → R) → Type 0
+ComparesAlike {L} plain requirements = (service required other_service other_required : L)
+    → plain service ≡ plain other_service → plain required ≡ plain other_required
+    → requirements service required ≡ requirements other_service other_required
 
 -- whatever configurations have the plain values of both sides, the answer is the same
 abbrev pub HasOneAnswer : {C : Type 0} → (List C → List C → FieldAnswer → Type 0) → Type 0

@@ -4,17 +4,12 @@ use Rattle.std.specs.Prelude.{◌≡◌, ℕ, List, Option, Some, None, Result}
 use Rattle.iox2sd_values.specs.Prelude.{BlackboardConfig, EventConfig, EventSettings, Field, FieldAnswer, PublishSubscribeConfig, ReadsEvent, RequestResponseConfig, code, event_of, field_answer, no_field}
 use Rattle.iox2_static.specs.Requirements.{first_unmet}
 use Rattle.iox2_static.specs.Satisfies.{publish_subscribe_requirements, event_requirements, request_response_requirements, blackboard_requirements}
-use Rattle.iox2_config.specs.DefaultTypes.{default_details}
-use Rattle.iox2_config.specs.TypeDetailParts.{default_detail}
-use Rattle.iox2_static.specs.declared.static_config.blackboard.StaticConfig.{StaticConfig as Blackboard}
 use Rattle.iox2_static.specs.declared.static_config.event.StaticConfig.{StaticConfig as Event}
-use Rattle.iox2_static.specs.declared.static_config.publish_subscribe.StaticConfig.{StaticConfig as PublishSubscribe}
-use Rattle.iox2_static.specs.declared.static_config.request_response.StaticConfig.{StaticConfig as RequestResponse}
 use Rattle.iox2_static.specs.declared.static_config.setting.Setting.{Setting}
 use Rattle.iox2_static.specs.declared.static_config.setting.Setting.TheVariants as setting
 use Rattle.iox2sd_common.specs.Answers.{OfGiven, Reading}
 use Rattle.iox2sd_common.specs.declared.status.Status.TheVariants as status
-use Rattle.iox2sd_values.specs.Descriptions.{ReadsAs}
+use Rattle.iox2sd_values.specs.Descriptions.{ReadsAs, c_blackboard, c_publish_subscribe, c_request_response}
 
 -- the number of a setting, which no field has that may be invalid, but for the deadline
 abbrev pub setting_number : Setting → ℕ
@@ -81,53 +76,18 @@ SatisfiesBy Compares services required answer =
     OfGiven (no_field status.Null) (λ s. OfGiven (no_field status.Null) (Compares s) required)
     services answer
 
--- the layer's configuration with these plain values, of messages of default types
-abbrev pub fixed_publish_subscribe : PublishSubscribeConfig → PublishSubscribe
-fixed_publish_subscribe c = record {
-  max_subscribers = c.max_subscribers;
-  max_publishers = c.max_publishers;
-  max_nodes = c.max_nodes;
-  history_size = c.history_size;
-  subscriber_max_buffer_size = c.subscriber_max_buffer_size;
-  subscriber_max_borrowed_samples = c.subscriber_max_borrowed_samples;
-  enable_safe_overflow = c.enable_safe_overflow;
-  message_type_details = default_details;
-}
-
-abbrev pub fixed_request_response : RequestResponseConfig → RequestResponse
-fixed_request_response c = record {
-  enable_safe_overflow_for_requests = c.enable_safe_overflow_for_requests;
-  enable_safe_overflow_for_responses = c.enable_safe_overflow_for_responses;
-  enable_fire_and_forget_requests = c.enable_fire_and_forget_requests;
-  max_active_requests_per_client = c.max_active_requests_per_client;
-  max_loaned_requests = c.max_loaned_requests;
-  max_response_buffer_size = c.max_response_buffer_size;
-  max_servers = c.max_servers;
-  max_clients = c.max_clients;
-  max_nodes = c.max_nodes;
-  max_borrowed_responses_per_pending_response = c.max_borrowed_responses_per_pending_response;
-  request_message_type_details = default_details;
-  response_message_type_details = default_details;
-}
-
-abbrev pub fixed_blackboard : BlackboardConfig → Blackboard
-fixed_blackboard c = record {
-  max_readers = c.max_readers;
-  max_writers = c.max_writers;
-  max_nodes = c.max_nodes;
-  type_details = default_detail;
-}
-
--- the answer on those configurations: others with the same plain values compare so too
+-- the answer on configurations with these plain values: others with the same compare so too
 -- (`ComparesAlike`)
-abbrev pub ComparesFixed : {C L : Type 0} → (C → L) → (L → L → Option Setting) → C → C
-    → FieldAnswer → Type 0
-ComparesFixed fixed unmet s r answer = answer ≡ satisfied (unmet (fixed s) (fixed r))
+abbrev pub ComparesBy : {L C : Type 0} → (L → C) → (L → L → Option Setting) → C → C → FieldAnswer
+    → Type 0
+ComparesBy {L} plain unmet s r answer =
+    (service required : L) × (plain service ≡ s) × (plain required ≡ r)
+    × (answer ≡ satisfied (unmet service required))
 
 -- of publish-subscribe services
 abbrev pub SatisfiesPublishSubscribe : List PublishSubscribeConfig → List PublishSubscribeConfig
     → FieldAnswer → Type 0
-SatisfiesPublishSubscribe = SatisfiesBy (ComparesFixed fixed_publish_subscribe
+SatisfiesPublishSubscribe = SatisfiesBy (ComparesBy c_publish_subscribe
     (λ s r. first_unmet (publish_subscribe_requirements s r)))
 
 -- of event services
@@ -137,11 +97,11 @@ SatisfiesEvent = SatisfiesBy ComparesEvents
 -- of request-response services
 abbrev pub SatisfiesRequestResponse : List RequestResponseConfig → List RequestResponseConfig
     → FieldAnswer → Type 0
-SatisfiesRequestResponse = SatisfiesBy (ComparesFixed fixed_request_response
+SatisfiesRequestResponse = SatisfiesBy (ComparesBy c_request_response
     (λ s r. first_unmet (request_response_requirements s r)))
 
 -- of blackboard services
 abbrev pub SatisfiesBlackboard : List BlackboardConfig → List BlackboardConfig → FieldAnswer
     → Type 0
 SatisfiesBlackboard =
-    SatisfiesBy (ComparesFixed fixed_blackboard (λ s r. first_unmet (blackboard_requirements s r)))
+    SatisfiesBy (ComparesBy c_blackboard (λ s r. first_unmet (blackboard_requirements s r)))

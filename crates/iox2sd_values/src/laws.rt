@@ -7,8 +7,7 @@ ghost use Rattle.iox2_static.specs.Satisfies.{blackboard_requirements};
 ghost use Rattle.iox2sd_values.specs.Descriptions.{c_publish_subscribe, c_request_response};
 ghost use Rattle.iox2sd_values.specs.Descriptions.{c_blackboard};
 ghost use Rattle.iox2sd_values.specs.Laws.{MakesOneSet, ComparesAlike, HasOneAnswer};
-ghost use Rattle.iox2sd_values.specs.Satisfies.{fixed_publish_subscribe, fixed_request_response};
-ghost use Rattle.iox2sd_values.specs.Satisfies.{fixed_blackboard, SatisfiesEvent};
+ghost use Rattle.iox2sd_values.specs.Satisfies.{SatisfiesEvent};
 
 use super::attributes::Attribute;
 
@@ -25,10 +24,8 @@ pub fn pairs_make_one_set(pairs: &mut [Attribute<'_>])
 /// was set.
 #[tactic(auto, using(crate::proofs::Compared::answers))]
 pub fn comparisons_have_one_answer()
-    ensures publish_subscribe { ComparesAlike c_publish_subscribe fixed_publish_subscribe
-        publish_subscribe_requirements }
+    ensures publish_subscribe { ComparesAlike c_publish_subscribe publish_subscribe_requirements }
     ensures event { HasOneAnswer SatisfiesEvent }
-    ensures request_response { ComparesAlike c_request_response fixed_request_response
-        request_response_requirements }
-    ensures blackboard { ComparesAlike c_blackboard fixed_blackboard blackboard_requirements }
+    ensures request_response { ComparesAlike c_request_response request_response_requirements }
+    ensures blackboard { ComparesAlike c_blackboard blackboard_requirements }
 {}

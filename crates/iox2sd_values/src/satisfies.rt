@@ -3,8 +3,9 @@ ghost use Rattle.std.specs.Prelude.{◌≡◌};
 ghost use Rattle.iox2sd_values.specs.Satisfies.{setting_number, satisfied, ReadsFixed, settings_of};
 ghost use Rattle.iox2sd_values.specs.Satisfies.{ComparesEvents, SatisfiesPublishSubscribe};
 ghost use Rattle.iox2sd_values.specs.Satisfies.{SatisfiesEvent, SatisfiesRequestResponse};
-ghost use Rattle.iox2sd_values.specs.Satisfies.{SatisfiesBlackboard, fixed_publish_subscribe};
-ghost use Rattle.iox2sd_values.specs.Satisfies.{fixed_request_response, fixed_blackboard};
+ghost use Rattle.iox2sd_values.specs.Satisfies.{SatisfiesBlackboard};
+ghost use Rattle.iox2sd_values.specs.Descriptions.{c_publish_subscribe, c_request_response};
+ghost use Rattle.iox2sd_values.specs.Descriptions.{c_blackboard};
 
 use super::descriptions::{
     BlackboardConfig, EventConfig, PublishSubscribeConfig, RequestResponseConfig,
@@ -66,7 +67,7 @@ fn satisfied(unmet: Option<Setting>) -> FieldAnswer
 
 /// What is fixed of a publish-subscribe service, beside the types of its messages.
 fn publish_subscribe_of(config: &PublishSubscribeConfig) -> publish_subscribe::StaticConfig
-    ensures { result ≡ fixed_publish_subscribe config.now }
+    ensures { c_publish_subscribe result ≡ config.now }
 {
     publish_subscribe::StaticConfig {
         max_subscribers: config.max_subscribers,
@@ -155,7 +156,7 @@ pub extern "C" fn iox2sd_event_satisfies_at(
 
 /// What is fixed of a request-response service, beside the types of its messages.
 fn request_response_of(config: &RequestResponseConfig) -> request_response::StaticConfig
-    ensures { result ≡ fixed_request_response config.now }
+    ensures { c_request_response result ≡ config.now }
 {
     request_response::StaticConfig {
         enable_safe_overflow_for_requests: config.enable_safe_overflow_for_requests,
@@ -189,7 +190,7 @@ pub extern "C" fn iox2sd_request_response_satisfies_at(
 
 /// What is fixed of a blackboard service, beside the type of its keys.
 fn blackboard_of(config: &BlackboardConfig) -> blackboard::StaticConfig
-    ensures { result ≡ fixed_blackboard config.now }
+    ensures { c_blackboard result ≡ config.now }
 {
     blackboard::StaticConfig {
         max_readers: config.max_readers,
