@@ -1,5 +1,6 @@
 -- What a search by halves finds among sorted ports.
-use Rattle.iox2sd.proofs.Names.{AreSorted, Bool, Err, IsNonDecreasingBy-from_all_adjacent, IsTrue, List, Ok, PortId, Result, arith, false, get_or, id_of, if◌then◌else◌, inl, inr, is_at_most, is_kept, length, number_of, order_at, sym, true, true≢false, ℕ, ◌&&◌, ◌<◌, ◌==◌, ◌≡◌, ◌≤◌}
+use Rattle.iox2sd.proofs.Names.{Bool, Err, IsNonDecreasingBy-from_all_adjacent, IsTrue, List, Ok, PortId, Result, arith, false, get_or, id_of, if◌then◌else◌, inl, inr, is_at_most, is_kept, length, number_of, order_at, sym, true, true≢false, ℕ, ◌&&◌, ◌<◌, ◌==◌, ◌≡◌, ◌≤◌}
+use Rattle.iox2sd.specs.DeadNodes.{AreSorted}
 use Rattle.std.proofs.lemmas.Bool.{cases_lt}
 use Rattle.std.specs.List.{IsAllAdjacentAnswer}
 use Rattle.std.specs.List.Sorted.{IsSearchInRange, IsBinarySearchResult}
@@ -37,6 +38,7 @@ rises n v m a r s le = grind (arith, nat_tests)
 pub sorted_from_adjacent : (kept : List PortId) (r : Bool)
     → IsAllAdjacentAnswer (λ x y b. b ≡ is_at_most x y) kept r
     → IsTrue r → AreSorted kept
+unfolding AreSorted
 sorted_from_adjacent kept true adjacent h role value =
     IsNonDecreasingBy-from_all_adjacent (λ p. ordering_index (order_at p role value)) kept
     (λ k d lt. rises _ value _ _ role _ (sym (adjacent k d lt)))
@@ -46,6 +48,7 @@ pub searched : (kept : List PortId) (role value : ℕ) → AreSorted kept → (r
     → IsSearchInRange r (length kept)
     → IsBinarySearchResult (λ p. order_at p role value) kept r
     → is_ok r ≡ is_kept kept role value
+unfolding AreSorted
 searched kept role value sorted (Ok at) in_range equal =
     sym (list_any_at (λ p. p.role == role && number_of p.port == value) kept at none in_range
     (equal_is _ value _ role (equal none)))

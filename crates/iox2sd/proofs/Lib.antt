@@ -1,8 +1,6 @@
 pub mod Names
-pub mod Heap
 pub mod Steps
-pub mod Roles
 pub mod Listings
-pub mod Removing
+pub mod Counting
 pub mod Keeping
 pub mod Lending

@@ -65,19 +65,24 @@ kind_put details calls k I step ports f h i visit =
     all_put calls k (λ x. c_port (details x)) I step f (listed ports.registry) h i visit in
     (all.0, subst (λ l. PutsAll l (k f) (k h)) (shown_as details ports.registry.entries) all.1)
 
-length_ports : (ports : ContainerState PortDetails)
-    → length (ports_in ports) ≡ length ports.registry.entries
-length_ports ports = length-map (listed ports.registry) c_port
-    ∙ length-map ports.registry.entries (λ e. e.details)
+as_long : {T A : Type 0} (item : T → A) (state : ContainerState T)
+    → length (map item (listed state.registry)) ≡ length state.registry.entries
+as_long item state = length-map (listed state.registry) item
+    ∙ length-map state.registry.entries (λ e. e.details)
 
 -- the ports of a role, as many as were counted
 pub counted : (s : Service) (role : Role) (n : ℕ)
     → CountsIn (first_role s.pattern) (second_role s.pattern) s.ports role (Some n)
     → (ports : List Port) × PortsOf s role ports × (n ≡ length ports)
 counted s role n (inl found) =
-    (ports_in s.ports.first, inl (found.0, refl), found.1 ∙ sym (length_ports s.ports.first))
+    (ports_in s.ports.first, inl (found.0, refl), found.1 ∙ sym (as_long c_port s.ports.first))
 counted s role n (inr found) =
-    (ports_in s.ports.second, inr (found.0, refl), found.1 ∙ sym (length_ports s.ports.second))
+    (ports_in s.ports.second, inr (found.0, refl), found.1 ∙ sym (as_long c_port s.ports.second))
+
+-- the nodes, as many as were counted
+pub counted_nodes : (nodes : ContainerState ℕ) (n : ℕ) → n ≡ length nodes.registry.entries
+    → n ≡ length (nodes_in nodes)
+counted_nodes nodes n count = count ∙ sym (as_long id_of nodes)
 
 -- a role is that of the first kind where its side says so
 pub is_first : (pattern : PatternKind) (role : Role) (side : Option Bool)
@@ -90,43 +95,28 @@ is_first pattern role (Some false) some none =
 is_first pattern role None some none =
     ((λ t. absurd (true≢false (sym t))), (λ e. absurd (none.0 e)))
 
--- they stand at the front of an array that has room for them
-pub at_front : (s : Service) (role : Role) (is_first : Bool)
-    → (IsTrue is_first ↔ (role ≡ first_role s.pattern))
-    → (before after : List Port) (used : ℕ)
-    → PutsAll (ports_of_kind is_first s.ports) (before, 0) (after, used)
-    → (ports : List Port) → PortsOf s role ports → length ports ≤ length before → after ≡ ports
-    ++ drop (length ports) before
-at_front s role true same before after used puts ports (inl is) fits =
-    rw is.1 (puts [] before refl refl (rw is.1 at fits))
-at_front s role false same before after used puts ports (inl is) fits =
-    absurd (true≢false (sym (same.1 is.0)))
-at_front s role true same before after used puts ports (inr is) fits =
+-- its ports are those of that kind
+pub of_kind : (s : Service) (role : Role) (is_first : Bool)
+    → (IsTrue is_first ↔ (role ≡ first_role s.pattern)) → (ports : List Port)
+    → PortsOf s role ports → ports_of_kind is_first s.ports ≡ ports
+of_kind s role true same ports (inl is) = sym is.1
+of_kind s role false same ports (inl is) = absurd (true≢false (sym (same.1 is.0)))
+of_kind s role true same ports (inr is) =
     absurd (roles_differ s.pattern (sym (same.0 refl) ∙ is.0))
-at_front s role false same before after used puts ports (inr is) fits =
-    rw is.1 (puts [] before refl refl (rw is.1 at fits))
+of_kind s role false same ports (inr is) = sym is.1
 
-length_nodes : (nodes : ContainerState ℕ) → length (nodes_in nodes) ≡ length nodes.registry.entries
-length_nodes nodes = length-map (listed nodes.registry) id_of
-    ∙ length-map nodes.registry.entries (λ e. e.details)
-
--- the nodes, as many as were counted, stand at the front of an array that has room for them
-pub nodes_at_front : (nodes : ContainerState ℕ) (before after : List Id) (used n : ℕ)
-    → n ≡ length nodes.registry.entries
-    → PutsAll (nodes_in nodes) (before, 0) (after, used) → n ≤ length before
-    → ListsAll (nodes_in nodes) before n after
-nodes_at_front nodes before after used n count puts fits =
-    let is : n ≡ length (nodes_in nodes) = count ∙ sym (length_nodes nodes) in
-    let room : length (nodes_in nodes) ≤ length before = subst (λ m. m ≤ length before) is fits in
-    (room, puts [] before refl refl room, is)
+-- as many items as were counted stand at the front of an array that has room for them
+pub at_front : {A : Type 0} (items before after : List A) (used n : ℕ) → n ≡ length items
+    → PutsAll items (before, 0) (after, used) → n ≤ length before → ListsAll items before n after
+at_front items before after used n count puts fits =
+    let room : length items ≤ length before = subst (λ m. m ≤ length before) count fits in
+    (room, puts [] before refl refl room, count)
 
 -- or there are more than it has room for
-pub nodes_too_many : (nodes : ContainerState ℕ) (before : List Id) (n : ℕ)
-    → n ≡ length nodes.registry.entries
-    → length before < n → NeedsMore (nodes_in nodes) before n before
-nodes_too_many nodes before n count more =
-    let is : n ≡ length (nodes_in nodes) = count ∙ sym (length_nodes nodes) in
-    (subst (λ m. length before < m) is more, refl, is)
+pub too_many : {A : Type 0} (items before : List A) (n : ℕ) → n ≡ length items
+    → length before < n → NeedsMore items before n before
+too_many items before n count more =
+    (subst (λ m. length before < m) count more, refl, count)
 
 -- the array with one more item
 put_behind : {A : Type 0} (before done old new : List A) (item : A) → old ≡ done

@@ -33,7 +33,7 @@ abbrev pub is_at_most : PortId → PortId → Bool
 is_at_most p other = is_le (order_at p other.role (number_of other.port))
 
 -- those that stand before any port come first, and those behind it last
-abbrev pub AreSorted : List PortId → Type 0
+unfoldable pub AreSorted : List PortId → Type 0
 AreSorted ports =
     (role value : ℕ) → IsNonDecreasingBy (λ p. ordering_index (order_at p role value)) ports
 

@@ -20,7 +20,7 @@ pub use Rattle.iox2sd.specs.declared.values.IdAnswer.{IdAnswer}
 pub use Rattle.iox2sd.specs.declared.values.NumberAnswer.{NumberAnswer}
 pub use Rattle.iox2sd.specs.declared.values.Port.{Port}
 pub use Rattle.iox2sd.specs.declared.values.Roles.{Roles}
-pub use Rattle.iox2sd_common.specs.Answers.{Written, count_answer, text_answer}
+pub use Rattle.iox2sd_common.specs.Answers.{count_answer}
 pub use Rattle.iox2sd_common.specs.Ids.{ReadsNode, ReadsText, id_of, number_of}
 pub use Rattle.iox2sd_common.specs.Status.{ReadsStatus, code, status_text}
 pub use Rattle.iox2sd_common.specs.declared.id.Id.{Id}

@@ -1,2 +1,3 @@
 mod Listed
 mod Prelude
+pub mod Texts

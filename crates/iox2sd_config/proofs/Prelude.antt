@@ -6,7 +6,7 @@ pub use Rattle.iox2_config_file.specs.Unknown.{unknown_view}
 pub use Rattle.iox2sd_config.specs.Faults.{c_at, c_fault}
 pub use Rattle.iox2sd_config.specs.Files.{ListsFaults, Settles, fault_sort_key, refused_answer}
 pub use Rattle.iox2sd_config.specs.Unknown.{c_key_at, c_unknown, named_sort_key, named_view, paths_of, plain_of, unknown_answer}
-pub use Rattle.std.proofs.Common.{Err, List, None, Ok, Option, Some, [], ap, arith, drop, inl, inr, length, refl, rules, subst, sym, ℕ, ◌++◌, ◌<◌, ◌∙◌, ◌∷◌, ◌≡◌}
+pub use Rattle.std.proofs.Common.{Err, List, None, Option, Some, [], ap, arith, drop, inl, inr, length, refl, rules, subst, sym, ℕ, ◌++◌, ◌<◌, ◌∙◌, ◌∷◌, ◌≡◌}
 pub use Rattle.std.proofs.lemmas.List.{length-map, map-id}
 pub use Rattle.std.proofs.lemmas.List.Sorted.{answers_always, length_permutation}
 pub use Rattle.std.specs.Prelude.{map, slice_get, string_bytes}

@@ -61,7 +61,7 @@ abbrev pub bad_name : Keyed → Status × List ℕ
 bad_name (key, bytes) = (bad_status status.NoFileName bytes, key)
 
 -- what is said of the first of the texts that is refused
-abbrev pub IsFirstBad : (List ℕ → Type 0) → (Keyed → Status × List ℕ) → List Keyed
+unfoldable pub IsFirstBad : (List ℕ → Type 0) → (Keyed → Status × List ℕ) → List Keyed
     → Status × List ℕ → Type 0
 IsFirstBad Is said [] bad = ⊥
 IsFirstBad Is said (x ∷ xs) bad =

@@ -180,6 +180,7 @@ fn check_name(text: &PlainText, key: &'static str) -> Result<(), BadText>
 }
 
 /// The paths are paths, or this is the first that is none.
+#[tactic(auto, using(crate::proofs::Texts::refused_texts))]
 fn check_paths(texts: &PlainTexts) -> Result<(), BadText>
     ensures ok { IfOk result (λ _. HasPaths texts.now) }
     ensures err { IfErr result (λ bad.
@@ -191,6 +192,7 @@ fn check_paths(texts: &PlainTexts) -> Result<(), BadText>
 }
 
 /// The ends of the names of services' files are names of files, or this is the first that is none.
+#[tactic(auto, using(crate::proofs::Texts::refused_texts))]
 fn check_service_names(texts: &PlainTexts) -> Result<(), BadText>
     ensures ok { IfOk result (λ _. HasServiceNames texts.now) }
     ensures err { IfErr result (λ bad.
@@ -224,6 +226,7 @@ fn check_service_names(texts: &PlainTexts) -> Result<(), BadText>
 }
 
 /// The ends of the names of nodes' files are names of files, or this is the first that is none.
+#[tactic(auto, using(crate::proofs::Texts::refused_texts))]
 fn check_node_names(texts: &PlainTexts) -> Result<(), BadText>
     ensures ok { IfOk result (λ _. HasNodeNames texts.now) }
     ensures err { IfErr result (λ bad.

@@ -38,6 +38,15 @@ any_maker P (x ∷ xs) some =
     ∙ get_or-map pair_of (x ∷ xs) k x in
     (k, a, within, get_or_default (x ∷ xs) k a x within, subst P same holds)
 
+-- some element has the property exactly where one has it of the pairs in another order
+any_in : (P : Pair → Type 0) (xs : List Attribute) (pairs : List Pair)
+    → IsPermutation (map pair_of xs) pairs → Any (λ a. P (pair_of a)) xs ↔ Any P pairs
+any_in P xs pairs order = (
+  λ some. any_moved P (map pair_of xs) pairs order (any_made P xs some),
+  λ some. any_maker P xs
+      (any_moved P pairs (map pair_of xs) (IsPermutation-sym (map pair_of xs) pairs order) some),
+)
+
 -- what is made of the element at an index
 made_at : (xs : List Attribute) (i : ℕ) (d : Attribute) → i < length xs
     → get_or (map pair_of xs) i (pair_of (get_or xs i d)) ≡ pair_of (get_or xs i d)
@@ -51,33 +60,21 @@ pub is_listed : (required wanted : List Attribute) (i : ℕ) (d : Attribute)
     → IsListing (map pair_of required) (map pair_of wanted)
     → i < length wanted → ¬ (Finds (λ a. pair_of a ≡ pair_of (get_or wanted i d)) required None)
 is_listed required wanted i d listing inside none =
-    let item = get_or wanted i d in
+    let item = pair_of (get_or wanted i d) in
     let within : i < length (map pair_of wanted) =
     omega (arith, inside, length-map wanted pair_of) in
-    let has : Contains (map pair_of wanted) (pair_of item) =
-    (i, within, made_at wanted i d inside) in
-    let there = Contains-permutation (map pair_of wanted) (map pair_of required) (pair_of item)
-    (IsPermutation-sym (map pair_of required) (map pair_of wanted) listing.0) has in
     let (k, a, below, is, same) =
-    any_maker (λ p. p ≡ pair_of item) required
-    ((Contains-Any (map pair_of required) (pair_of item)).1 there) in
-    none k a below (subst (λ x. pair_of x ≡ pair_of item) (sym is) same)
+    (any_in (λ p. p ≡ item) required (map pair_of wanted) listing.0).1
+    (i, item, within, made_at wanted i d inside, refl) in
+    none k a below (subst (λ x. pair_of x ≡ item) (sym is) same)
 
 module _ (set required wanted : List Attribute) (keys : List Key) (listing : List Pair)
     (listed : IsListing (map pair_of set) listing)
     (comes : IsListing (map pair_of required) (map pair_of wanted)) where
-  -- some pair of the set has the property exactly where one of the listing has it
-  in_listing : (P : Pair → Type 0) → Any (λ a. P (pair_of a)) set ↔ Any P listing
-  in_listing P = (
-    λ some. any_moved P (map pair_of set) listing listed.0 (any_made P set some),
-    λ some. any_maker P set
-        (any_moved P listing (map pair_of set)
-        (IsPermutation-sym (map pair_of set) listing listed.0) some),
-  )
-
   has_pair : (w : Attribute) → Any (λ a. pair_of a ≡ pair_of w) set ↔ Contains listing (pair_of w)
   has_pair w =
-      let some = in_listing (λ p. p ≡ pair_of w) in let one = Contains-Any listing (pair_of w) in
+      let some = any_in (λ p. p ≡ pair_of w) set listing listed.0 in
+      let one = Contains-Any listing (pair_of w) in
       (λ has. one.0 (some.0 has), λ has. some.1 (one.1 has))
 
   pairs_missed : (r : Option ℕ) → Misses (λ w. Any (λ a. pair_of a ≡ pair_of w) set) wanted r
@@ -89,7 +86,7 @@ module _ (set required wanted : List Attribute) (keys : List Key) (listing : Lis
       → Misses (ContainsKey listing) (map text_of keys) r
   keys_missed r misses =
       Misses-map text_of (ContainsKey listing) keys r
-      (Misses-same _ _ keys r (λ k. in_listing (λ p. p.key ≡ text_of k)) misses)
+      (Misses-same _ _ keys r (λ k. any_in (λ p. p.key ≡ text_of k) set listing listed.0) misses)
 
   abbrev Reports : PlaceAnswer → Type 0
   Reports answer = ReportsOf listing (map pair_of wanted) required keys answer

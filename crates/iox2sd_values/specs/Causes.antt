@@ -1,5 +1,5 @@
 -- Why a text is refused, where the status says which one it is.
-use Rattle.std.specs.Prelude.{◌≡◌, ℕ, ◌==◌, Bool, false, true, List, Option, Some, None, MatchBool, slice_get}
+use Rattle.std.specs.Prelude.{◌≡◌, ℕ, ◌==◌, Bool, false, true, List, Option, MatchBool, MatchOption, slice_get}
 use Rattle.iox2sd_values.specs.Prelude.{Attribute, CountAnswer, FieldAnswer, Key, MakesName, PlaceAnswer, Status, TextAnswer, code}
 use Rattle.iox2sd_common.specs.declared.status.Status.TheVariants as status
 use Rattle.iox2sd_values.specs.Attributes.{ReportsSet}
@@ -66,17 +66,14 @@ JoinCause Checks path given cause =
 
 -- why the key, or the value, of a pair is refused; nothing where there is no pair
 abbrev pub KeyCause : Option Attribute → ℕ → Type 0
-KeyCause (Some pair) cause = IsCause (ChecksKey pair.key.now) cause
-KeyCause None cause = cause ≡ 0
+KeyCause pair cause = MatchOption pair (cause ≡ 0) (λ p. IsCause (ChecksKey p.key.now) cause)
 
 abbrev pub ValueCause : Option Attribute → ℕ → Type 0
-ValueCause (Some pair) cause = IsCause (ChecksValue pair.value.now) cause
-ValueCause None cause = cause ≡ 0
+ValueCause pair cause = MatchOption pair (cause ≡ 0) (λ p. IsCause (ChecksValue p.value.now) cause)
 
 -- the same of a key alone
 abbrev pub TextCause : Option Key → ℕ → Type 0
-TextCause (Some key) cause = IsCause (ChecksKey key.text.now) cause
-TextCause None cause = cause ≡ 0
+TextCause key cause = MatchOption key (cause ≡ 0) (λ k. IsCause (ChecksKey k.text.now) cause)
 
 -- why pairs are no set: of the pair at the place
 abbrev pub SetCause : List Attribute → ℕ → ℕ → ℕ → Type 0

@@ -7,6 +7,7 @@ use Rattle.iox2sd_values.specs.Prelude.{Status, code, end_code}
 use Rattle.iox2_config.specs.TypeDetails.{detail, message, MakesDetail}
 use Rattle.iox2_config.specs.TypeDetailParts.{TypeDetailParts}
 use Rattle.iox2_config.specs.declared.types.message_details.MessageTypeDetails.{MessageTypeDetails}
+use Rattle.iox2_config.specs.declared.types.type_detail.TypeDetailError.{TypeDetailError}
 use Rattle.iox2_config.specs.declared.types.type_detail.TypeDetailError.TheVariants.{Name, AlignmentNotPowerOfTwo}
 use Rattle.iox2_config.specs.declared.types.type_detail.TypeVariant.{TypeVariant}
 use Rattle.iox2_config.specs.declared.types.type_detail.TypeVariant.TheVariants.{FixedSize, Dynamic}
@@ -48,23 +49,21 @@ abbrev pub WithVariant : Part → (TypeVariant → Type 0) → Type 0
 WithVariant part Rest = (variant : TypeVariant) × ReadsVariant part.variant (Some variant)
     × Rest variant
 
+-- what making the type of a part answers, where its name is UTF-8
+abbrev pub MakesPart : Part → Result TypeDetailParts TypeDetailError → Type 0
+MakesPart part made =
+    WithVariant part
+    (λ variant. IsUtf8 part.name.now × MakesDetail (part_facts part variant) made)
+
 -- the type of a part, or why it has none: the variant is looked at first, then the name, and then
 -- the alignment
 abbrev pub ReadsPart : Part → Result TypeDetailParts Status → Type 0
-ReadsPart part (Ok made) =
-    WithVariant part
-    (λ variant. IsUtf8 part.name.now × MakesDetail (part_facts part variant) (Ok made))
+ReadsPart part (Ok made) = MakesPart part (Ok made)
 ReadsPart part (Err status.UnknownVariant) = ReadsVariant part.variant None
 ReadsPart part (Err status.NotUtf8) = WithVariant part (λ variant. ¬ (IsUtf8 part.name.now))
-ReadsPart part (Err status.TooLong) = WithVariant part
-    (λ variant. IsUtf8 part.name.now
-    × MakesDetail (part_facts part variant) (Err (Name InsertWouldExceedCapacity)))
-ReadsPart part (Err status.IllegalByte) = WithVariant part
-    (λ variant. IsUtf8 part.name.now
-    × MakesDetail (part_facts part variant) (Err (Name InvalidCharacter)))
-ReadsPart part (Err status.BadAlignment) = WithVariant part
-    (λ variant. IsUtf8 part.name.now
-    × MakesDetail (part_facts part variant) (Err AlignmentNotPowerOfTwo))
+ReadsPart part (Err status.TooLong) = MakesPart part (Err (Name InsertWouldExceedCapacity))
+ReadsPart part (Err status.IllegalByte) = MakesPart part (Err (Name InvalidCharacter))
+ReadsPart part (Err status.BadAlignment) = MakesPart part (Err AlignmentNotPowerOfTwo)
 ReadsPart part (Err _) = ⊥
 
 -- whether the type of a part is valid, where there is a part

@@ -8,7 +8,7 @@ pub use Rattle.iox2_static.specs.Event.{duration_of, event_of}
 pub use Rattle.iox2_texts.specs.Name.{IsAllowed, IsName, MakesLegal, MakesName, MakesPublicName, MakesServiceName}
 pub use Rattle.iox2_texts.specs.Path.{EndsPlain, IsPlain, IsRestricted, MakesJoined, is_restricted}
 pub use Rattle.iox2_texts.specs.declared.bounded.SemanticStringError.{SemanticStringError}
-pub use Rattle.iox2sd_common.specs.ReadSettings.{ReadsBlackboard, ReadsEvent, ReadsGlobal, ReadsPublishSubscribe, ReadsRequestResponse, field_answer, no_field}
+pub use Rattle.iox2sd_common.specs.ReadSettings.{ReadsBlackboard, ReadsEvent, ReadsPublishSubscribe, ReadsRequestResponse, field_answer, no_field}
 pub use Rattle.iox2sd_common.specs.Status.{code, end_code}
 pub use Rattle.iox2sd_common.specs.declared.answers.CountAnswer.{CountAnswer}
 pub use Rattle.iox2sd_common.specs.declared.answers.PlaceAnswer.{PlaceAnswer}

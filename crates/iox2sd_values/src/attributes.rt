@@ -115,11 +115,9 @@ pub extern "C" fn iox2sd_attributes_check_at(pairs: &[Attribute<'_>]) -> PlaceAn
     ensures reports { PlaceBut (ReportsSet pairs.now) result }
     ensures cause { SetCause pairs.now result.at result.status result.cause }
 {
-    let reported = report_set(pairs);
-    PlaceAnswer {
-        cause: set_cause(reported.status, pairs, reported.at),
-        ..reported
-    }
+    let mut reported = report_set(pairs);
+    reported.cause = set_cause(reported.status, pairs, reported.at);
+    reported
 }
 
 /// Sorts the pairs of a set, or reports the first that is wrong.
@@ -143,11 +141,9 @@ pub extern "C" fn iox2sd_attributes_sort_at(pairs: &mut [Attribute<'_>]) -> Plac
     ensures reports { PlaceBut (λ answer. SortsSet pairs.old answer pairs.new) result }
     ensures cause { SetCause pairs.new result.at result.status result.cause }
 {
-    let reported = sort_set(pairs);
-    PlaceAnswer {
-        cause: set_cause(reported.status, pairs, reported.at),
-        ..reported
-    }
+    let mut reported = sort_set(pairs);
+    reported.cause = set_cause(reported.status, pairs, reported.at);
+    reported
 }
 
 /// How many pairs have the key.
@@ -231,11 +227,9 @@ pub extern "C" fn iox2sd_attributes_number_of_key_values_at(
     ensures reports { CountBut (CountsValues pairs.now key.now) result }
     ensures cause { SearchedKeyCause pairs.now key.now result.status result.cause }
 {
-    let reported = count_of(pairs, key);
-    CountAnswer {
-        cause: searched_key_cause(reported.status, pairs, key),
-        ..reported
-    }
+    let mut reported = count_of(pairs, key);
+    reported.cause = searched_key_cause(reported.status, pairs, key);
+    reported
 }
 
 /// Writes the value of the key at the index, or reports why there is none.
@@ -268,11 +262,9 @@ pub extern "C" fn iox2sd_attributes_key_value_at(
         result }
     ensures cause { SearchedKeyCause pairs.now key.now result.status result.cause }
 {
-    let reported = write_of(pairs, key, index, out);
-    TextAnswer {
-        cause: searched_key_cause(reported.status, pairs, key),
-        ..reported
-    }
+    let mut reported = write_of(pairs, key, index, out);
+    reported.cause = searched_key_cause(reported.status, pairs, key);
+    reported
 }
 
 /// Whether the keys may be required beside so many pairs, or why the first that is wrong may not,
@@ -364,9 +356,7 @@ pub extern "C" fn iox2sd_attributes_verify_at(
     ensures cause { RequiredCause pairs.now required.now keys.now result.at
         result.status result.cause }
 {
-    let reported = judge(pairs, required, keys);
-    PlaceAnswer {
-        cause: required_cause(reported.status, pairs, required, keys, reported.at),
-        ..reported
-    }
+    let mut reported = judge(pairs, required, keys);
+    reported.cause = required_cause(reported.status, pairs, required, keys, reported.at);
+    reported
 }

@@ -302,11 +302,9 @@ fn describe_as(
         out.old answer out.new) result }
     ensures cause { NameCause internal name.now result.status result.cause }
 {
-    let reported = fill(describe(any_service_name(name, internal), pattern, id), out);
-    FieldAnswer {
-        cause: name_cause(reported.status, name, internal),
-        ..reported
-    }
+    let mut reported = fill(describe(any_service_name(name, internal), pattern, id), out);
+    reported.cause = name_cause(reported.status, name, internal);
+    reported
 }
 
 /// The pattern of a publish-subscribe service with these settings, or the first invalid field.

@@ -69,11 +69,9 @@ fn write_below(root: &[u8], directory: &Path, out: &mut [u8]) -> TextAnswer
         out.new) result }
     ensures cause { RootCause root.now result.status result.cause }
 {
-    let reported = report_path(below(root, directory), out);
-    TextAnswer {
-        cause: root_cause(reported.status, root),
-        ..reported
-    }
+    let mut reported = report_path(below(root, directory), out);
+    reported.cause = root_cause(reported.status, root);
+    reported
 }
 
 /// Writes the directory of services below a root path.

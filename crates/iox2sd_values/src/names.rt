@@ -106,11 +106,9 @@ fn write_hash(pattern: u64, name: &[u8], internal: bool, out: &mut [u8]) -> Text
         out.new) result }
     ensures cause { NameCause internal name.now result.status result.cause }
 {
-    let reported = report_hash(pattern, name, internal, out);
-    TextAnswer {
-        cause: name_cause(reported.status, name, internal),
-        ..reported
-    }
+    let mut reported = report_hash(pattern, name, internal, out);
+    reported.cause = name_cause(reported.status, name, internal);
+    reported
 }
 
 /// Writes the hash text of a service's pattern and name, by SHA-1: 27 bytes.

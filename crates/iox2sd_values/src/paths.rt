@@ -60,11 +60,9 @@ pub extern "C" fn iox2sd_path_add_path_entry_at(
         out.new) result }
     ensures cause { JoinCause (ChecksPath entry.now) path.now result.status result.cause }
 {
-    let reported = report_path(join_paths(path, entry), out);
-    TextAnswer {
-        cause: entry_cause(reported.status, path, entry),
-        ..reported
-    }
+    let mut reported = report_path(join_paths(path, entry), out);
+    reported.cause = entry_cause(reported.status, path, entry);
+    reported
 }
 
 /// Writes the path of a file in a directory, with one `/` between them unless the directory is
@@ -82,9 +80,7 @@ pub extern "C" fn iox2sd_file_path_from_path_and_file_at(
         answer out.new) result }
     ensures cause { JoinCause (ChecksFileName file.now) path.now result.status result.cause }
 {
-    let reported = report_path(join_file(path, file), out);
-    TextAnswer {
-        cause: file_cause(reported.status, path, file),
-        ..reported
-    }
+    let mut reported = report_path(join_file(path, file), out);
+    reported.cause = file_cause(reported.status, path, file);
+    reported
 }

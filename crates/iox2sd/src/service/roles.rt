@@ -28,7 +28,7 @@ fn count(service: &DynamicConfig, role: Role) -> usize
 
 impl Counts {
     /// How many ports of each kind there are.
-    #[tactic(auto, using(crate::proofs::Roles::counts))]
+    #[tactic(auto, using(crate::proofs::Counting::counts))]
     pub(crate) fn of(service: &DynamicConfig) -> Counts
         ensures { result ≡ counted service.now }
     {

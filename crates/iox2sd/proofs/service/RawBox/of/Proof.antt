@@ -8,7 +8,7 @@ use Rattle.std_alloc.proofs.boxed.Box.TheLaws as box
 use Rattle.std_alloc.proofs.boxed.Box.into_raw.Met.{met}
 use Rattle.std_alloc.specs.contracts.boxed.Box as Box
 use Rattle.std_alloc.specs.contracts.boxed.Box.into_raw as g
-use Rattle.iox2sd.proofs.Heap.{heap, heap_laws, drops as spared}
+use Rattle.iox2sd.proofs.Steps.{heap, heap_laws, drops as spared}
 use Rattle.iox2sd.proofs.service.RawBox.of.Code as code
 use Rattle.iox2sd.proofs.service.RawBox.of.Statement.{statement}
 use Rattle.iox2sd.specs.contracts.service.RawBox as RawBox

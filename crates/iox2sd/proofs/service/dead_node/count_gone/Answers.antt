@@ -1,4 +1,4 @@
-use Rattle.iox2sd.proofs.Removing.{fewer, so_many_went}
+use Rattle.iox2sd.proofs.Counting.{fewer, so_many_went}
 use Rattle.iox2sd.proofs.service.dead_node.count_gone.Goals as goal
 
 pub overflow_sub-gone : goal.overflow_sub-gone

@@ -1,5 +1,6 @@
--- No port comes by the removal of a dead node.
-use Rattle.iox2sd.proofs.Names.{Bool, ContainerState, Entry, Keeps, List, PortDetails, PortId, Service, Went, ap, arith, count_by-le-length, counted, is_leaving, is_of, length, length-filter, node_of, not, sym, ℕ, ◌-◌, ◌≡◌, ◌≤◌}
+-- How many ports of each of a pattern's two kinds there are, and that none comes by the removal of
+-- a dead node.
+use Rattle.iox2sd.proofs.Names.{Bool, ContainerState, CountsIn, Entry, Keeps, List, PatternKind, PortDetails, PortId, Ports, Role, Service, Some, Went, ap, arith, count_by-le-length, counted, first_role, inl, inr, is_leaving, is_of, length, length-filter, node_of, not, roles_differ, second_role, sym, ℕ, ◌-◌, ◌∙◌, ◌≡◌, ◌≤◌}
 use Rattle.iox2_ids.specs.declared.identifiers.port_id.UniquePortId.{UniquePortId}
 use Rattle.iox2_dynamic.specs.declared.dynamic_config.answers.DeregisterNodeState.{DeregisterNodeState}
 use Rattle.iox2_dynamic.specs.declared.dynamic_config.answers.PortCleanupAction.{PortCleanupAction}
@@ -7,6 +8,21 @@ use Rattle.iox2_dynamic.specs.Recoveries.{RecoversPorts}
 use Rattle.iox2_dynamic.specs.Steps.{DeadStep}
 use Rattle.iox2sd.specs.declared.service.roles.Counts.{Counts}
 
+pub first_count : (pattern : PatternKind) (p : Ports) (role : Role) (n : ℕ)
+    → CountsIn (first_role pattern) (second_role pattern) p role (Some n)
+    → role ≡ first_role pattern → n ≡ length p.first.registry.entries
+first_count pattern p role n (inl c) e = c.1
+first_count pattern p role n (inr c) e = absurd (roles_differ pattern (sym e ∙ c.0))
+
+pub second_count : (pattern : PatternKind) (p : Ports) (role : Role) (n : ℕ)
+    → CountsIn (first_role pattern) (second_role pattern) p role (Some n)
+    → role ≡ second_role pattern → n ≡ length p.second.registry.entries
+second_count pattern p role n (inl c) e = absurd (roles_differ pattern (sym c.0 ∙ e))
+second_count pattern p role n (inr c) e = c.1
+
+pub ruleset counts = (first_count, second_count)
+
+-- the removal of a dead node leaves no more of them
 recovered_fewer : {F : Type 0} (calls : F → UniquePortId → PortCleanupAction → F → Type 0)
     (dead : ℕ) (old : ContainerState PortDetails) (f : F) (new : ContainerState PortDetails)
     (h : F)
