@@ -5,7 +5,6 @@ use Rattle.histories.proofs.Indices.{contains_map_of, contains_of_map, each_from
 use Rattle.histories.proofs.Events.{ends_within, stands_within, begins-append, begins_stands, ends_either, ends_left, stands_begins, stands_either, stands_right, answered_ended, answered_left, answered_right, over_left, over_right}
 use Rattle.histories.proofs.Running.{leads_join, leads_split}
 use Rattle.histories.proofs.Frontiers.{frontier_fresh, table_none}
-pub use Rattle.histories.proofs.Events.{begins-append}
 
 -- a call of the first part is over when one of the second begins
 over_across : (es fs : List Event) (c d : ℕ) → IsQuiet es → 0 < begins c es → 0 < begins d fs

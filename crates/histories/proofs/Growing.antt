@@ -4,13 +4,11 @@ use Rattle.histories.specs.Frontier.{HasManyOrders}
 use Rattle.histories.specs.Windows.{LeadsTooFar}
 use Rattle.histories.specs.declared.front.Advance.TheVariants as advance
 use Rattle.histories.proofs.Frontiers.{front_same}
-use Rattle.histories.proofs.Events.{begins_none, sound_none}
+use Rattle.histories.proofs.Events.{begins_none, sound_none, open_parts, open_whole, quiet_both, sound_back, begins-append}
 use Rattle.histories.proofs.Explaining.{explains_begin, explains_end}
-use Rattle.histories.proofs.Cutting.{begins-append}
 use Rattle.histories.proofs.Verdicts.{frontier_explained, frontier_refused, frontier_some, history_sound, numbered_none}
 use Rattle.histories.specs.declared.window.Stop.TheVariants as stop
-use Rattle.histories.proofs.Joins.{open_parts, open_whole, quiet_both, sound_back}
-use Rattle.histories.proofs.Trying.{formed_front, formed_history, formed_inside, formed_next, sound_formed}
+use Rattle.histories.proofs.Leaving.{formed_front, formed_history, formed_inside, formed_next, sound_formed}
 
 module _ {M S : Type 0} (StepOf : M → S → ℕ → S → Type 0) (machine : M) (old : Front S) where
   -- of each history that begins with events that the old front is of, the new one is that of more

@@ -1,5 +1,5 @@
 -- Lists that are changed index by index, and orders that are read from links.
-use Rattle.histories.proofs.Words.{zero, suc, slice_set, [], ◌∷◌, ◌≡◌, ◌≢◌, ℕ, ◌+◌, ◌<◌, ◌≤◌, List, ◌++◌, take, drop, append-nil, take_all, length, get_or, set, refl, sym, ◌∙◌, ap, arith, Contains, map, get_or-map, cases_eq, cases_lt, Contains-get_or, AreEach, drop_all, get_or-set_other, get_or-set_same, get_or_default, length-set, length-map, Option, None, map-id, take-append-drop, reverse, length-append, append_assoc, get_or-append, get_or-append_seam, get_or_past, length-take-le, reverse-append, take_more, Config, Link, Event, IsFollowed, IsFrontier, Path, no_path, order_at, path_more, AreLaid, Grows, IsLaid, IsLaidOut, remove, ◌-◌, AllPairs, inl, inr, cases_order}
+use Rattle.histories.proofs.Words.{zero, suc, slice_set, [], ◌∷◌, ◌≡◌, ◌≢◌, ℕ, ◌+◌, ◌<◌, ◌≤◌, List, ◌++◌, take, drop, append-nil, take_all, length, get_or, set, refl, sym, ◌∙◌, ap, arith, Contains, map, get_or-map, cases_eq, cases_lt, Contains-get_or, AreEach, drop_all, get_or-set_other, get_or-set_same, get_or_default, length-set, length-map, Option, None, map-id, take-append-drop, reverse, length-append, append_assoc, get_or-append, get_or-append_seam, get_or_past, length-take-le, reverse-append, take_more, Config, Link, Event, IsFollowed, IsFrontier, Path, no_path, order_at, path_more, AreLaid, Grows, IsLaid, IsLaidOut, remove, ◌-◌, AllPairs, inl, inr, cases_order, Front, IsFrontOf, IsFirstOrder, IsOrder}
 use Rattle.histories.specs.Frontier.{orders, read}
 use Rattle.std.proofs.lemmas.Iterator.Adapters.{YieldsList-from_vec}
 use Rattle.std.proofs.lemmas.Iterator.Consumers.{YieldsList-end}
@@ -300,3 +300,28 @@ module _ {S : Type 0} (Step : S → ℕ → S → Type 0) where
     once = λ i j d less within same. grind arith;
     table = f.table;
   }
+
+-- the calls of the links, and those that were made since
+pub order_first : {S : Type 0} (front : Front S) (k : Config S) (known order : List ℕ)
+    → 0 < length front.configs.items → k ≡ get_or front.configs.items 0 k
+    → known ≡ read front.links.items k.base → order ≡ known ++ k.made.items
+    → IsFirstOrder front order
+order_first {S} front k known order some is reads all d = grind (arith, get_or_default)
+
+first_of : {X : Type 0} (xs : List X) → 0 < length xs → X
+first_of [] some = absurd (omega arith)
+first_of (x ∷ xs) some = x
+
+-- it explains what the front is of
+pub first_explains : {S : Type 0} (Step : S → ℕ → S → Type 0) (front : Front S) (es : List Event)
+    (olds : List S) (order : List ℕ) → IsFrontOf Step front es olds
+    → 0 < length front.configs.items → IsFirstOrder front order → IsOrder Step es olds order
+first_explains {S} Step front es olds order f some is =
+    let d : Config S = first_of _ some in
+    let k = get_or front.configs.items 0 d in
+    let followed = f.sound k (0, some, get_or_default front.configs.items 0 k d some) in (
+      followed.old,
+      k.state,
+      followed.from,
+      rw (is d) followed.explains,
+    )

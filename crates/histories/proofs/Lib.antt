@@ -12,11 +12,6 @@ pub mod Frontiers
 pub mod Cutting
 pub mod Verdicts
 pub mod Alone
-pub mod Joins
 pub mod Growing
 pub mod Following
-pub mod Ordering
 pub mod Leaving
-pub mod Trying
-pub mod Shrinking
-pub mod Goings

@@ -109,7 +109,7 @@ fn leave_out<M: Machine>(
 /// Leaves out the call that begins with the event, if it is known to change nothing, and it is
 /// found that no order explains the rest. It is not tried where fewer configurations are left than
 /// there are events.
-#[tactic(auto, using(crate::proofs::Shrinking::left_out_is))]
+#[tactic(auto, using(crate::proofs::Leaving::left_out_is))]
 fn leave_out_begun<M: Machine>(
     alloc: Global,
     machine: &M,

@@ -190,6 +190,7 @@ fn crash<M: Machine>(
 /// ```
 /// let found = advance(alloc, &machine, &mut front, event)?;
 /// ```
+#[tactic(auto, using(crate::proofs::Frontiers::front_many))]
 pub fn advance<M: Machine>(
     alloc: Global,
     machine: &M,

@@ -57,7 +57,7 @@ pub enum Stop {
 
 /// The order of the first configuration of the window: the calls since it began, one after the
 /// other, as they take effect. A call that was never answered is among them where it did.
-#[tactic(auto, using(crate::proofs::Ordering::order_first))]
+#[tactic(auto, using(crate::proofs::Indices::order_first))]
 pub fn order_in<S>(alloc: Global, window: &Window<S>) -> Result<Vec<usize>, AllocError>
     requires { 0 < length window.now.front.configs.items }
     ensures { IfOk result (λ order. IsFirstOrder window.now.front order.items) }

@@ -3,7 +3,7 @@ use Rattle.history_logs.proofs.Words.{All, All-cons, All-nil, AllZip, AreJudged,
 use Rattle.histories.specs.Frontier.{IsFrontOf}
 use Rattle.histories.proofs.Counting.{times_at}
 use Rattle.histories.specs.Windows.{IsFirstOrder, IsOrder}
-use Rattle.histories.proofs.Ordering.{first_explains}
+use Rattle.histories.proofs.Indices.{first_explains}
 use Rattle.history_logs.specs.declared.logs.verdict.Order.{Order}
 use Rattle.history_logs.specs.Judging.{AreOrdered}
 use Rattle.history_logs.specs.Orders.{IsOrderOf}

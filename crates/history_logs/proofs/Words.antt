@@ -1,6 +1,6 @@
 -- The words of specs and of std that proofs use.
 pub use Rattle.histories.proofs.Counting.{times_one}
-pub use Rattle.histories.proofs.Events.{begins-append, stands_begins}
+pub use Rattle.histories.proofs.Events.{begins-append, stands_begins, stands_take}
 pub use Rattle.histories.proofs.Verdicts.{begun_none, counts_begin, counts_crash, counts_end, one_more}
 pub use Rattle.histories.specs.Frontier.{HasSlot}
 pub use Rattle.histories.specs.Histories.{HasEnded, IsExplained, IsHistory, IsOpen, MayFollow, StandsAt, begins, begun}
@@ -25,7 +25,6 @@ pub use Rattle.history_logs.specs.declared.logs.verdict.Expected.{Expected}
 pub use Rattle.history_logs.specs.declared.logs.verdict.Refusal.{Refusal}
 pub use Rattle.history_logs.specs.declared.logs.verdict.Verdict.{Verdict}
 pub use Rattle.history_logs.specs.declared.logs.verdict.Verdict.TheVariants.{Conforms, ManyConfigs, ManyOpen, Refused}
-pub use Rattle.histories.proofs.Joins.{stands_take}
 pub use Rattle.histories.specs.Goings.{IsFrontAfter}
 pub use Rattle.histories.specs.Needed.{events_of, is_kept}
 pub use Rattle.histories.specs.Windows.{IsStop, IsWindowOf}

@@ -1,6 +1,5 @@
 -- Calls that overlap nothing are runs.
-use Rattle.service_conformance.proofs.Prelude.{AllByRecursion, List, None, Option, Some, [], ap, arith, length, map, range_with_len, refl, slice_get, subst, suc, sym, zero, ℕ, ◌++◌, ◌+◌, ◌<◌, ◌^◌, ◌↔◌, ◌∙◌, ◌∷◌, ◌≡◌, same_Some}
-use Rattle.service_conformance.proofs.Names.{Answered, Call, CallStep, Command, First, Gives, Handle, IsBare, IsBounded, IsBoundedRegistry, IsExplained, IsRegistry, IsService, Judged, JudgedStep, KeepsHandles, Leads, MayGive, PortDetails, RegistryState, Reply, Run, Second, Serves, ServesDeregister, ServesRelease, Service, ServiceStep, Side, State, Watched, WindowStep, added_role, answered, at_first, call, call_of, calls_alone, cons_same, handle_for, handle_in, handle_named, judged_of, named, ports_at, quiet, quiet_state, role_at, role_of, text_of, unwatched}
+use Rattle.service_conformance.proofs.Names.{AllByRecursion, List, None, Option, Some, [], ap, arith, length, map, range_with_len, refl, slice_get, subst, suc, sym, zero, ℕ, ◌++◌, ◌+◌, ◌<◌, ◌^◌, ◌↔◌, ◌∙◌, ◌∷◌, ◌≡◌, same_Some, Answered, Call, CallStep, Command, First, Gives, Handle, IsBare, IsBounded, IsBoundedRegistry, IsExplained, IsRegistry, IsService, Judged, JudgedStep, KeepsHandles, Leads, MayGive, PortDetails, RegistryState, Reply, Run, Second, Serves, ServesDeregister, ServesRelease, Service, ServiceStep, Side, State, Watched, WindowStep, added_role, answered, at_first, call, call_of, calls_alone, cons_same, handle_for, handle_in, handle_named, judged_of, named, ports_at, quiet, quiet_state, role_at, role_of, text_of, unwatched}
 use Rattle.histories.specs.Laws.{in_order}
 use Rattle.histories.proofs.Alone.{calls_alone_are_runs}
 use Rattle.histories.proofs.Indices.{only}
@@ -11,7 +10,7 @@ use Rattle.service_descriptions.proofs.Serving.{moves, keeps}
 use Rattle.service_conformance.proofs.Following.{attach_may, register_may}
 use Rattle.service_conformance.proofs.Quiet.{run_quiet, serves_quiet, service_quiet}
 use Rattle.service_conformance.proofs.Seen.{is_handle, no_handle_text}
-use Rattle.service_conformance.proofs.Sides.{ports_are}
+use Rattle.service_conformance.proofs.Taking.{ports_are}
 use Rattle.service_conformance.proofs.Words.{neither, one_handle, parts_same}
 
 -- a handle that the service may give to a command

@@ -1,14 +1,71 @@
 -- What calls that were seen do.
-use Rattle.service_conformance.proofs.Prelude.{All-push, All-weaker, AllocError, Contains, Contains-append_left, Contains-push, IfOk, List, None, Option, Result, Some, Vec, [], ap, arith, false, inl, inr, refl, subst, sym, true, ℕ, ◌++◌, ◌+◌, ◌<◌, ◌∙◌, ◌∷◌, ◌≡◌, ◌⊎◌, cases_lt, IfOk-weaker, All-cons, All-nil, All, get_or, length, ◌≢◌, all_pairs_push}
-use Rattle.service_conformance.proofs.Names.{AreAll, ArePossible, ArePossibleWords, AreRepliesOf, ByPort, Call, CallStep, CanServe, ChangesNothing, Command, GivesBelow, Handle, IsCovered, IsIdleCall, IsSameReply, IsService, LeadsOn, LeadsTo, LineReply, MayGiveIn, Part, Possible, PossibleReplies, Reply, SeenReply, Serves, ServesCall, ServesDead, Service, ReadsReply, changes_nothing, handle_in, is_removal, named, quiet, reply_in, seen_text, text_of, AreEnough, AreGivenBelow}
+use Rattle.service_conformance.proofs.Names.{All-push, All-weaker, AllocError, Contains, Contains-append_left, Contains-push, IfOk, List, None, Option, Result, Some, Vec, [], ap, arith, false, inl, inr, refl, subst, sym, true, ℕ, ◌++◌, ◌+◌, ◌<◌, ◌∙◌, ◌∷◌, ◌≡◌, ◌⊎◌, cases_lt, IfOk-weaker, All-cons, All-nil, All, get_or, length, ◌≢◌, all_pairs_push, AreAll, ArePossible, ArePossibleWords, AreRepliesOf, ByPort, Call, CallStep, CanServe, ChangesNothing, Command, GivesBelow, Handle, IsCovered, IsIdleCall, IsSameReply, IsService, LeadsOn, LeadsTo, LineReply, MayGiveIn, Part, Possible, PossibleReplies, Reply, SeenReply, Serves, ServesCall, ServesDead, Service, ReadsReply, changes_nothing, handle_in, is_removal, named, quiet, reply_in, seen_text, text_of, AreEnough, AreGivenBelow, All-head, Ok, AddStep, Entry, First, PortDetails, RegistryState, Second, ServesDeregister, ServesRelease, Side, ports_at, role_of, slot_entry}
 use Rattle.service_descriptions.specs.declared.replay.machine.command.Command.TheVariants as command
 use Rattle.service_descriptions.specs.declared.replay.machine.reply.Reply.TheVariants as reply
 use Rattle.service_conformance.specs.declared.conformance.possible.Part.TheVariants as part
 use Rattle.service_conformance.specs.declared.conformance.possible.Possible.TheVariants as possible
 use Rattle.service_conformance.proofs.Following.{attach_stays, deregister_stays, register_stays, release_stays}
 use Rattle.service_conformance.proofs.Seen.{reported_nothing}
-use Rattle.service_conformance.proofs.Slots.{one_slot}
-use Rattle.service_conformance.proofs.Words.{IsPlain, same_handle, same_or_plain, same_reply}
+use Rattle.service_conformance.proofs.Words.{IsPlain, same_handle, same_or_plain, same_reply, neither}
+use Rattle.std.proofs.lemmas.Bool.{cases_eq}
+use Rattle.iox2_container.proofs.Lists.{All-back}
+use Rattle.iox2_container.proofs.Keeping.{All-gain}
+use Rattle.service_conformance.proofs.Taking.{its_ports, Takes, at_side, of_ports, taken_at}
+
+-- of a registry
+one_added : {T : Type 0} (r n : RegistryState T) (d : T) (g h : Handle) → AddStep r d (Ok g) n
+    → AddStep r d (Ok h) n → g.slot ≡ h.slot
+one_added {T} r n d g h s t =
+    elim (cases_eq g.slot h.slot) [
+      | inl same ↦ same
+      | inr ne ↦
+          let Other : Entry T → Type 0 = λ e. e.slot ≢ h.slot in
+          let x : Entry T = slot_entry g.slot r.used d in
+          let y : Entry T = slot_entry h.slot r.used d in
+          let all : All Other n.entries =
+          All-gain Other r.entries n.entries x s.2.2 t.2.1 ne in
+          let put = t.2.2 in
+          absurd (All-head Other y put.after
+          (All-back Other put.before (y ∷ put.after) (rw put.new_is at all)) refl)
+    ]
+
+-- with this handle the command leaves the state
+abbrev pub LeavesWith : Service → List (Option Handle) → Command → Handle → Service → Type 0
+LeavesWith s handles c h next =
+    (mid : Service) × Serves s None handles c (reply.Handle h) mid × IsService mid
+    × (quiet mid ≡ next)
+
+pub one_slot : (s next : Service) (handles : List (Option Handle)) (c : Command) → IsCovered c
+    → (g h : Handle) → LeavesWith s handles c g next → LeavesWith s handles c h next
+    → g.slot ≡ h.slot
+one_slot s next handles (command.Register id) i g h one other =
+    let same : other.0.nodes.registry ≡ one.0.nodes.registry =
+    ap (λ (w : Service). w.nodes.registry) (other.3 ∙ sym one.3) in
+    one_added s.nodes.registry one.0.nodes.registry id g h one.1.0.step
+    (rw same at other.1.0.step)
+one_slot s next handles (command.Add d) i g h one other =
+    let a = one.1.1.1.0 in
+    let side = a.side in
+    let t = taken_at (λ r m. AddStep r d (Ok g) m) (role_of d) s one.0 a one.1.1.1.1 side
+    a.role_is in
+    let u = taken_at (λ r m. AddStep r d (Ok h) m) (role_of d) s other.0 other.1.1.1.0
+    other.1.1.1.1 side a.role_is in
+    let same : u.registry ≡ t.registry =
+    sym (its_ports side s u.registry)
+    ∙ (ap (λ (w : Service). (ports_at w side).registry)
+    (sym u.left ∙ (other.3 ∙ (sym one.3 ∙ t.left))) ∙ its_ports side s t.registry) in
+    one_added (ports_at s side).registry t.registry d g h t.step (rw same at u.step)
+one_slot s next handles (command.Deregister k) i g h one other =
+    absurd (neither (λ x. ServesDeregister s x (reply.Handle g) one.0) (λ n. n) (λ x n. n)
+    (named handles k) one.1)
+one_slot s next handles (command.Release k) i g h one other =
+    absurd (neither (λ x. ServesRelease s x (reply.Handle g) one.0) (λ n. n) (λ x n. n)
+    (named handles k) one.1)
+one_slot s next handles command.Nodes i g h one other = absurd one.1.0
+one_slot s next handles (command.List role) i g h one other = absurd one.1.0
+one_slot s next handles (command.Count role) i g h one other = absurd one.1.0
+one_slot s next handles (command.Dead dead (ByPort kept)) i g h one other = absurd one.1
+one_slot s next handles _ i g h one other = absurd i
 
 pub all_of_one : {S : Type 0} (Fact : S → Type 0) (x : S) → Fact x
     → ((other : S) → Fact other → other ≡ x) → AreAll Fact (x ∷ [])

@@ -1,6 +1,5 @@
 -- The recovery of a dead node, where ports of some values stay: what it leaves, and its reply.
-use Rattle.service_conformance.proofs.Prelude.{Bool, List, Vec, ap, false, filter, if◌then◌else◌, map, not, refl, true, ℕ, ◌&&◌, ◌∙◌, ◌≡◌, and-true, All, All-cons, All-head, All-nil, All-tail, [], arith, eq-eqb, get_or, ne_eqb, subst, sym, ◌<◌, ◌==◌, ◌∷◌, All-filter}
-use Rattle.service_conformance.proofs.Names.{CalledInTurn, CallsCleanup, ByPort, CleanedUp, Cleans, ContainerState, Default, DeregisterNodeState, Entry, LeadsTo, LockIfLastIndex, NodesAfter, PortCleanupAction, PortDetails, RecoverStep, RegistryState, ReleaseState, RemovePort, Reply, ServesDead, Service, SkipPort, after_dead, details_where, at_rest, has_ports_of, is_kept, is_of, marks_of, node_of, nodes_if, port_of, ports_at_rest, quiet, removes, state_of, staying, with_left, without_node, without_ports, ArePossible, IsRegistry, IsService, Ports, RecoversBoth, RecoversNodes, RecoversPorts, action_for, candidates, container, port_value, release_state, reply_in, reply_of_owners, ReleaseMode, goes, reply_of_state}
+use Rattle.service_conformance.proofs.Names.{Bool, List, Vec, ap, false, filter, if◌then◌else◌, map, not, refl, true, ℕ, ◌&&◌, ◌∙◌, ◌≡◌, and-true, All, All-cons, All-head, All-nil, All-tail, [], arith, eq-eqb, get_or, ne_eqb, subst, sym, ◌<◌, ◌==◌, ◌∷◌, All-filter, CalledInTurn, CallsCleanup, ByPort, CleanedUp, Cleans, ContainerState, Default, DeregisterNodeState, Entry, LeadsTo, LockIfLastIndex, NodesAfter, PortCleanupAction, PortDetails, RecoverStep, RegistryState, ReleaseState, RemovePort, Reply, ServesDead, Service, SkipPort, after_dead, details_where, at_rest, has_ports_of, is_kept, is_of, marks_of, node_of, nodes_if, port_of, ports_at_rest, quiet, removes, state_of, staying, with_left, without_node, without_ports, ArePossible, IsRegistry, IsService, Ports, RecoversBoth, RecoversNodes, RecoversPorts, action_for, candidates, container, port_value, release_state, reply_in, reply_of_owners, ReleaseMode, goes, reply_of_state}
 use Rattle.iox2_container.proofs.Callable.{answers_by}
 use Rattle.iox2_container.proofs.SameEntries.{staying_by}
 use Rattle.iox2_dynamic.specs.declared.dynamic_config.answers.DeregisterNodeState.TheVariants as nodes
@@ -10,11 +9,9 @@ use Rattle.iox2_dynamic.proofs.Keeping.{dead_kept, skipped_kept}
 use Rattle.service_conformance.specs.declared.conformance.line_reply.LineReply.TheVariants as line
 use Rattle.service_conformance.specs.declared.conformance.seen_reply.ReplyWord.TheVariants as word
 use Rattle.service_conformance.specs.declared.conformance.possible.Possible.TheVariants as possible
-use Rattle.service_conformance.proofs.Removing.{owned}
-use Rattle.service_conformance.proofs.Filters.{kept_filter}
-use Rattle.service_conformance.proofs.Possibles.{alone}
+use Rattle.service_conformance.proofs.Possibles.{owned, alone}
+use Rattle.service_conformance.proofs.Registries.{kept_filter, Rise}
 use Rattle.service_conformance.proofs.Quiet.{untouching}
-use Rattle.service_conformance.proofs.Rising.{Rise}
 
 -- marks of slots that agree with a test of entries
 marks_for : {T : Type 0} (es : List (Entry T)) (goes : Entry T → Bool) → Rise es

@@ -1,10 +1,8 @@
 -- The one state that a reply leaves.
-use Rattle.service_conformance.proofs.Prelude.{Err, None, Ok, Option, Some, ap, false, inl, inr, refl, subst, true, ℕ, ◌∙◌, ◌≡◌}
-use Rattle.service_conformance.proofs.Names.{AddStep, AddsPort, CanServe, ContainerHandleNotOwnedByContainer, Default, First, Handle, IsRegistry, IsService, LeadsTo, LockIfLastIndex, MayGive, OutOfSpace, PortDetails, RegistryState, ReleaseState, RemoveStep, RemovesPort, Reply, Reports, Second, ServesAdd, ServesDeregister, ServesRegister, ServesRelease, Service, Side, TakesEntry, at_rest, handle_in, is_removal, ports_at, quiet, role_at, role_of}
-use Rattle.service_conformance.proofs.Sides.{has_role, lacks}
-use Rattle.service_conformance.proofs.Taking.{Takes, at_side, of_ports, ports_taken, taken_at}
+use Rattle.service_conformance.proofs.Names.{Err, None, Ok, Option, Some, ap, false, inl, inr, refl, subst, true, ℕ, ◌∙◌, ◌≡◌, AddStep, AddsPort, CanServe, ContainerHandleNotOwnedByContainer, Default, First, Handle, IsRegistry, IsService, LeadsTo, LockIfLastIndex, MayGive, OutOfSpace, PortDetails, RegistryState, ReleaseState, RemoveStep, RemovesPort, Reply, Reports, Second, ServesAdd, ServesDeregister, ServesRegister, ServesRelease, Service, Side, TakesEntry, at_rest, handle_in, is_removal, ports_at, quiet, role_at, role_of}
+use Rattle.service_conformance.proofs.Taking.{has_role, lacks, Takes, at_side, of_ports, ports_taken, taken_at}
 use Rattle.service_descriptions.specs.declared.replay.machine.reply.Reply.TheVariants as reply
-use Rattle.service_conformance.proofs.Adds.{add_once, was_given}
+use Rattle.service_conformance.proofs.Registries.{add_once, was_given}
 use Rattle.service_conformance.proofs.Quiet.{service_quiet}
 
 -- the one state that can be led to is a service

@@ -1,11 +1,9 @@
 -- What is given of a service that was in use.
-use Rattle.service_conformance.proofs.Prelude.{All, All-cons, All-head, All-nil, All-push, All-weaker, AllPairs, Bool, IfOk, List, OnErr, [], all_pairs_push, ap, arith, false, append-nil, refl, subst, sym, true, ℕ, ◌++◌, ◌<◌, ◌∙◌, ◌∷◌, ◌≡◌, ◌≢◌, ◌≤◌, false_from_ne_true}
-use Rattle.service_conformance.proofs.Names.{Becomes, Entry, First, GivesNode, GivesNodes, GivesPort, GivesPorts, IsBefore, IsPortRegistry, IsRegistry, IsService, IsUnused, MayStand, PortDetails, Registered, RegistryState, Role, Second, Service, Side, StandsLast, UsedSo, container, entries_of_node, is_of, node_of, ports_at, role_at, role_of, slot_entry, with_last, with_nodes, with_ports, with_used}
-use Rattle.std.specs.Prelude.{Result, Ok, Err}
+use Rattle.service_conformance.proofs.Names.{All, All-cons, All-head, All-nil, All-push, All-weaker, AllPairs, Bool, IfOk, List, OnErr, [], all_pairs_push, ap, arith, false, append-nil, refl, subst, sym, true, ℕ, ◌++◌, ◌<◌, ◌∙◌, ◌∷◌, ◌≡◌, ◌≢◌, ◌≤◌, false_from_ne_true, Becomes, Entry, First, GivesNode, GivesNodes, GivesPort, GivesPorts, IsBefore, IsPortRegistry, IsRegistry, IsService, IsUnused, MayStand, PortDetails, Registered, RegistryState, Role, Second, Service, Side, StandsLast, UsedSo, container, entries_of_node, is_of, node_of, ports_at, role_at, role_of, slot_entry, with_last, with_nodes, with_ports, with_used, Result, Ok, Err}
 use Rattle.iox2_container.proofs.Counting.{counted, counted-between}
 use Rattle.iox2_container.proofs.Lists.{All-back, AllPairs-head, AllPairs-tail}
 use Rattle.iox2_dynamic.proofs.Keeping.{with_nodes as other_nodes}
-use Rattle.service_conformance.proofs.Sides.{one_side, ports_are}
+use Rattle.service_conformance.proofs.Taking.{one_side, ports_are}
 
 pub push_some : {X : Type 0} (xs : List X) (y : X) → xs ++ y ∷ [] ≢ []
 push_some [] y e = absurd (cc)

@@ -1,25 +1,17 @@
-pub mod Prelude
 pub mod Names
-pub mod Rising
-pub mod Adds
-pub mod Removes
-pub mod Filters
+pub mod Registries
 pub mod Possibles
-pub mod Sides
 pub mod Taking
-pub mod Removing
 pub mod Quiet
 pub mod Following
 pub mod Words
 pub mod Dying
 pub mod Seen
-mod Slots
 pub mod Calls
 pub mod Looking
 pub mod Judged
 pub mod Alone
 pub mod Given
-pub mod WeakListings
 pub mod MovingParts
 pub mod MovingSteps
 pub mod Moving

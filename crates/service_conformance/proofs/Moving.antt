@@ -1,6 +1,5 @@
 -- Calls that can be made before others, by two changes of which the second is made first.
-use Rattle.service_conformance.proofs.Prelude.{List, ap, arith, ne_eqb, refl, subst, sym, true, ℕ, ◌<◌, ◌∙◌, ◌≡◌, ◌≢◌, ◌≤◌}
-use Rattle.service_conformance.proofs.Names.{Call, CallStep, Change, ChangesAt, Handle, HasNumber, IsChange, IsService, Judged, JudgedStep, LockIfLastIndex, Look, MovesBefore, MovesBeforeCall, CanPrecede, PortDetails, RegistryState, Role, Service, Unlocked, Watched, WindowStep, call, entries_of_node, has_ports_of, is_of, looks_after, watched, Default}
+use Rattle.service_conformance.proofs.Names.{List, ap, arith, ne_eqb, refl, subst, sym, true, ℕ, ◌<◌, ◌∙◌, ◌≡◌, ◌≢◌, ◌≤◌, Call, CallStep, Change, ChangesAt, Handle, HasNumber, IsChange, IsService, Judged, JudgedStep, LockIfLastIndex, Look, MovesBefore, MovesBeforeCall, CanPrecede, PortDetails, RegistryState, Role, Service, Unlocked, Watched, WindowStep, call, entries_of_node, has_ports_of, is_of, looks_after, watched, Default}
 use Rattle.iox2_container.proofs.Counting.{counted-InsertsOne, one_if}
 use Rattle.service_conformance.specs.declared.conformance.mover.Change.TheVariants as change
 use Rattle.service_conformance.proofs.Judged.{one_call}

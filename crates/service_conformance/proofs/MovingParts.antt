@@ -1,12 +1,10 @@
 -- Changes of one registry of a service, and two of them in either order.
-use Rattle.service_conformance.proofs.Prelude.{Bool, List, Ok, [], ap, arith, length, refl, subst, sym, true, ℕ, ◌++◌, ◌||◌, ◌∙◌, ◌∷◌, ◌≡◌, inl, inr, map, ◌==◌, ◌≢◌, ◌⊎◌}
-use Rattle.service_conformance.proofs.Names.{Entry, Handle, InsertsOne, IsRegistry, RegistryState, ReleaseMode, ReleaseState, RemoveStep, handle_of, lock_after, release_state, with_left, First, IsService, PortDetails, Second, Service, Side, is_among, port_ids, port_of, port_value, ports_at, role_at}
+use Rattle.service_conformance.proofs.Names.{Bool, List, Ok, [], ap, arith, length, refl, subst, sym, true, ℕ, ◌++◌, ◌||◌, ◌∙◌, ◌∷◌, ◌≡◌, inl, inr, map, ◌==◌, ◌≢◌, ◌⊎◌, Entry, Handle, InsertsOne, IsRegistry, RegistryState, ReleaseMode, ReleaseState, RemoveStep, handle_of, lock_after, release_state, with_left, First, IsService, PortDetails, Second, Service, Side, is_among, port_ids, port_of, port_value, ports_at, role_at}
 use Rattle.iox2_container.proofs.Lists.{gains_later, length-InsertsOne}
-use Rattle.service_conformance.proofs.Removes.{kept_without}
+use Rattle.service_conformance.proofs.Registries.{kept_without}
 use Rattle.service_conformance.proofs.Looking.{by_cases, IsBetween, LosesIds, loses_between}
 use Rattle.service_conformance.specs.declared.conformance.possible.Part.TheVariants as part
-use Rattle.service_conformance.proofs.Taking.{Place, Takes, TakesPorts, at_side, of_nodes, of_ports, with_nodes}
-use Rattle.service_conformance.proofs.Sides.{ports_are}
+use Rattle.service_conformance.proofs.Taking.{its_ports, Place, Takes, TakesPorts, at_side, of_nodes, of_ports, with_nodes, ports_are}
 
 -- the entries without the second alone
 record WithoutSecond {T : Type 0} (whole left : List (Entry T)) (first second : Entry T) : Type 0
@@ -346,11 +344,6 @@ nodes_swap May mode h k s mid t i a b =
     let is : IsPlace of_nodes =
     record { there = λ s n. refl; again = λ s n m. refl; loses = nodes_lose } in
     removals_swap of_nodes is mode May h k s mid t i.nodes_are a b
-
-pub its_ports : (side : Side) (s : Service) (n : RegistryState PortDetails)
-    → (ports_at (at_side side s n) side).registry ≡ n
-its_ports First s n = refl
-its_ports Second s n = refl
 
 put_again : (side : Side) (s : Service) (n m : RegistryState PortDetails)
     → at_side side (at_side side s n) m ≡ at_side side s m

@@ -1,6 +1,5 @@
 -- What calls that were answered do, by what they change.
-use Rattle.service_conformance.proofs.Prelude.{All, All-head, All-tail, Err, List, None, Ok, Option, Result, Some, [], ap, arith, eq-eqb, eqb-true, false, false_from_ne_true, inl, inr, ltb-true, nat_eq, nat_lt, ne_eqb, or_cases, refl, same_Some, subst, suc, sym, true, zero, ℕ, Bool, ◌&&◌, ◌<◌, ◌∙◌, ◌∷◌, ◌≡◌}
-use Rattle.service_conformance.proofs.Names.{AddStep, Adds, Call, CallStep, Change, Changes, Command, ContainerHandleNotOwnedByContainer, ContainerRemoveError, Default, Entry, First, Handle, HasEntry, HasWords, InsertsOne, IsChange, IsRegistry, IsService, LockIfLastIndex, OnSide, PortDetails, Registered, RegistryState, ReleaseState, RemoveStep, RemovesPort, Reply, Role, Second, Serves, ServesAdd, ServesDeregister, ServesRegister, ServesRelease, Service, Side, Unlocked, entries_of_node, first_role, handle_in, handle_words, has_ports_of, is_last_of_ports, is_of, named, node_of, ports_at, quiet, role_at, role_of, second_role, text_of, untouched, word_text}
+use Rattle.service_conformance.proofs.Names.{All, All-head, All-tail, Err, List, None, Ok, Option, Result, Some, [], ap, arith, eq-eqb, eqb-true, false, false_from_ne_true, inl, inr, ltb-true, nat_eq, nat_lt, ne_eqb, or_cases, refl, same_Some, subst, suc, sym, true, zero, ℕ, Bool, ◌&&◌, ◌<◌, ◌∙◌, ◌∷◌, ◌≡◌, AddStep, Adds, Call, CallStep, Change, Changes, Command, ContainerHandleNotOwnedByContainer, ContainerRemoveError, Default, Entry, First, Handle, HasEntry, HasWords, InsertsOne, IsChange, IsRegistry, IsService, LockIfLastIndex, OnSide, PortDetails, Registered, RegistryState, ReleaseState, RemoveStep, RemovesPort, Reply, Role, Second, Serves, ServesAdd, ServesDeregister, ServesRegister, ServesRelease, Service, Side, Unlocked, entries_of_node, first_role, handle_in, handle_words, has_ports_of, is_last_of_ports, is_of, named, node_of, ports_at, quiet, role_at, role_of, second_role, text_of, untouched, word_text}
 use Rattle.iox2_container.proofs.Counting.{counted, counted-InsertsOne, counted-cons, one_if}
 use Rattle.iox2_container.proofs.Lists.{All-back}
 use Rattle.iox2_dynamic.proofs.Keeping.{leaving_kept, register_kept, attach_kept, release_kept}
@@ -9,11 +8,10 @@ use Rattle.service_descriptions.specs.declared.replay.machine.command.Command.Th
 use Rattle.service_descriptions.specs.declared.replay.machine.reply.Reply.TheVariants as reply
 use Rattle.service_conformance.specs.declared.conformance.mover.Change.TheVariants as change
 use Rattle.service_conformance.specs.declared.conformance.seen_reply.ReplyWord.TheVariants as word
-use Rattle.service_conformance.proofs.Taking.{Takes, TakesPorts, at_side, nodes_taken, of_nodes, ports_taken}
-use Rattle.service_conformance.proofs.MovingParts.{Removal, its_ports}
+use Rattle.service_conformance.proofs.Taking.{its_ports, Takes, TakesPorts, at_side, nodes_taken, of_nodes, ports_taken, has_role, ports_are}
+use Rattle.service_conformance.proofs.MovingParts.{Removal}
 use Rattle.service_conformance.proofs.Quiet.{service_quiet, untouching}
 use Rattle.service_conformance.proofs.Seen.{is_handle, is_named, no_handle_text}
-use Rattle.service_conformance.proofs.Sides.{has_role, ports_are}
 use Rattle.service_conformance.proofs.Looking.{by_cases}
 
 -- an entry is added

@@ -1,7 +1,6 @@
 -- What the words of replies say.
-use Rattle.service_conformance.proofs.Prelude.{All-cons, All-head, All-map, All-nil, All-tail, Bool, List, None, Option, Some, [], ap, append-nil, append_cancel_left, arith, codes, cond, decimal, decimal_injective, false, flat_map, get_or, get_or-map, length, length-map, map, refl, subst, suc, sym, true, ℕ, ◌++◌, ◌+◌, ◌<◌, ◌^◌, ◌↔◌, ◌∙◌, ◌∷◌, ◌≡◌, ◌≢◌, ◌≤◌, nil_from_length, same_Some, drop, length-drop}
-use Rattle.service_conformance.proofs.Names.{Bytes, EndsNumber, EndsWord, Handle, IsId, IsToLine, OthersFit, PortDetails, Reads, Reply, ReplyWord, SeenReply, Spelling, after, apart, changes_nothing, cons_same, count_words, handle_in, handle_words, has_no_space, hexadecimal, id_word, is_removal, line_end, list_words, listed_one, number, others_text, port_of, port_value, port_word, printed_id, printed_one, reply_named, same_id, seen_text, sequence, text_of, word_of, word_text}
-use Rattle.std.proofs.Common.{drop-cons, ◌&&◌, All, ◌==◌}
+use Rattle.service_conformance.proofs.Names.{All-cons, All-head, All-map, All-nil, All-tail, Bool, List, None, Option, Some, [], ap, append-nil, append_cancel_left, arith, codes, cond, decimal, decimal_injective, false, flat_map, get_or, get_or-map, length, length-map, map, refl, subst, suc, sym, true, ℕ, ◌++◌, ◌+◌, ◌<◌, ◌^◌, ◌↔◌, ◌∙◌, ◌∷◌, ◌≡◌, ◌≢◌, ◌≤◌, nil_from_length, same_Some, drop, length-drop, Bytes, EndsNumber, EndsWord, Handle, IsId, IsToLine, OthersFit, PortDetails, Reads, Reply, ReplyWord, SeenReply, Spelling, after, apart, changes_nothing, cons_same, count_words, handle_in, handle_words, has_no_space, hexadecimal, id_word, is_removal, line_end, list_words, listed_one, number, others_text, port_of, port_value, port_word, printed_id, printed_one, reply_named, same_id, seen_text, sequence, text_of, word_text}
+use Rattle.std.proofs.Common.{drop-cons, All, ◌==◌}
 use Rattle.line_streams.specs.Spelling.{listed}
 use Rattle.service_descriptions.specs.declared.replay.machine.reply.Reply.TheVariants as reply
 use Rattle.service_conformance.specs.declared.conformance.seen_reply.ReplyWord.TheVariants as word
@@ -131,69 +130,76 @@ module _ (words : List ℕ)
   none_replied (reply.Count n) i = counts n i
   none_replied _ i = absurd i
 
--- the reply without numbers whose words begin so
-abbrev by_letters : ℕ → ℕ → ℕ → Option ReplyWord
-by_letters first fourth fifth =
-    cond (first == 108) (cond (fourth == 107) (Some word.Locked) None)
-    (cond (first == 102) (Some word.Full)
-    (cond (first == 104) (cond (fifth == 111) (Some word.HasOwners) None)
-    (cond (first == 112) (cond (fifth == 115) (Some word.PortsAttached) None)
-    (cond (first == 114) (cond (fifth == 97) (Some word.Released) None)
-    (cond (first == 119) (Some word.WrongPattern)
-    (cond (first == 110) (cond (fourth == 111) (Some word.NoMoreOwners)
-    (cond (fourth == 104) (Some word.NoHandle)
-    (cond (fifth == 114) (Some word.NotRegistered)
-    (cond (fifth == 111) (Some word.NotOwned) None))))
-    None))))))
+-- what a reply is: it gives a handle, is one without numbers, or is another
+data Kind : Type 0 where
+  handle_kind : Kind
+  word_kind : ReplyWord → Kind
+  other_kind : Kind
 
-abbrev by_text : List ℕ → Option ReplyWord
+-- what a reply is whose words begin so
+abbrev by_letters : ℕ → ℕ → ℕ → Kind
+by_letters first fourth fifth =
+    cond (first == 108) (cond (fourth == 107) (word_kind word.Locked) other_kind)
+    (cond (first == 102) (word_kind word.Full)
+    (cond (first == 104)
+    (cond (fifth == 111) (word_kind word.HasOwners) (cond (fifth == 108) handle_kind other_kind))
+    (cond (first == 112) (cond (fifth == 115) (word_kind word.PortsAttached) other_kind)
+    (cond (first == 114) (cond (fifth == 97) (word_kind word.Released) other_kind)
+    (cond (first == 119) (word_kind word.WrongPattern)
+    (cond (first == 110) (cond (fourth == 111) (word_kind word.NoMoreOwners)
+    (cond (fourth == 104) (word_kind word.NoHandle)
+    (cond (fifth == 114) (word_kind word.NotRegistered)
+    (cond (fifth == 111) (word_kind word.NotOwned) other_kind))))
+    other_kind))))))
+
+abbrev by_text : List ℕ → Kind
 by_text text = by_letters (get_or text 0 0) (get_or text 3 0) (get_or text 4 0)
 
-of_reply : (r : Reply) → by_text (text_of r) ≡ word_of r
+abbrev kind_of : Reply → Kind
+kind_of (reply.Handle h) = handle_kind
+kind_of reply.Locked = word_kind word.Locked
+kind_of reply.Full = word_kind word.Full
+kind_of reply.NotRegistered = word_kind word.NotRegistered
+kind_of reply.HasOwners = word_kind word.HasOwners
+kind_of reply.NoMoreOwners = word_kind word.NoMoreOwners
+kind_of reply.PortsAttached = word_kind word.PortsAttached
+kind_of reply.Released = word_kind word.Released
+kind_of reply.NotOwned = word_kind word.NotOwned
+kind_of reply.NoHandle = word_kind word.NoHandle
+kind_of reply.WrongPattern = word_kind word.WrongPattern
+kind_of _ = other_kind
+
+of_reply : (r : Reply) → by_text (text_of r) ≡ kind_of r
 of_reply (reply.Compatible true) = refl
 of_reply (reply.Compatible false) = refl
 of_reply _ = refl
 
-of_word : (w : ReplyWord) → by_text (word_text w) ≡ Some w
+of_word : (w : ReplyWord) → by_text (word_text w) ≡ word_kind w
 of_word word.Locked = refl
 of_word _ = refl
 
 -- the reply, by its name if it has one
-abbrev by_word : Reply → Option ReplyWord → Reply
-by_word r None = r
-by_word r (Some w) = reply_named w
+abbrev by_kind : Reply → Kind → Reply
+by_kind r (word_kind w) = reply_named w
+by_kind r _ = r
 
-by_its_word : (r : Reply) → by_word r (word_of r) ≡ r
-by_its_word reply.Locked = refl
-by_its_word _ = refl
-
-has_word : (r : Reply) (w : ReplyWord) → text_of r ≡ word_text w → word_of r ≡ Some w
-has_word r w e = sym (of_reply r) ∙ (ap by_text e ∙ of_word w)
+by_its_kind : (r : Reply) → by_kind r (kind_of r) ≡ r
+by_its_kind reply.Locked = refl
+by_its_kind _ = refl
 
 -- a reply has the words of one without numbers only where it is that one
 pub is_named : (r : Reply) (w : ReplyWord) → text_of r ≡ word_text w → r ≡ reply_named w
-is_named r w e = sym (by_its_word r) ∙ ap (by_word r) (has_word r w e)
+is_named r w e =
+    sym (by_its_kind r) ∙ ap (by_kind r) (sym (of_reply r) ∙ (ap by_text e ∙ of_word w))
 
--- whether a text begins with these letters
-abbrev begins : ℕ → ℕ → List ℕ → Bool
-begins first third text = (get_or text 0 0 == first) && (get_or text 2 0 == third)
-
-differs : (a b : List ℕ) (first third : ℕ) → begins first third a ≡ false
-    → begins first third b ≡ true → a ≢ b
-differs a b first third f t e = (
-    let z : false ≡ true = sym f ∙ (ap (begins first third) e ∙ t) in cc)
-
-handle_begins : (r : Reply) → handle_in r ≡ None → begins 104 110 (text_of r) ≡ false
-handle_begins (reply.Handle h) e =
+gives_none : (r : Reply) → handle_in r ≡ None → kind_of r ≡ handle_kind → ⊥
+gives_none (reply.Handle h) e k =
     absurd (let z : ◌≡◌ {A = Option Handle} (Some h) None = e in cc)
-handle_begins (reply.Compatible true) e = refl
-handle_begins (reply.Compatible false) e = refl
-handle_begins _ e = refl
+gives_none _ e k = absurd (cc)
 
 pub no_handle_text : (r : Reply) → handle_in r ≡ None → (slot ticket : ℕ)
     → text_of r ≢ handle_words slot ticket
-no_handle_text r none slot ticket =
-    differs (text_of r) (handle_words slot ticket) 104 110 (handle_begins r none) refl
+no_handle_text r none slot ticket e = gives_none r none (sym (of_reply r) ∙ ap by_text e)
 
 pub is_handle : (r : Reply) (h : Handle) → handle_in r ≡ Some h → r ≡ reply.Handle h
 is_handle (reply.Handle k) h e = ap reply.Handle (same_Some k h e)
@@ -271,23 +277,13 @@ module _ {A : Type 0} (id : A → ℕ) (xs : List A) (ids : List ℕ) (i : ℕ) 
         λ e. omega (arith, ends.1 e, items, others),
       )
 
--- whether a text says that something changed
-abbrev says_change : List ℕ → Bool
-says_change text =
-    cond (get_or text 0 0 == 104) true
-    (cond (get_or text 0 0 == 110) (get_or text 3 0 == 111)
-    (cond (get_or text 0 0 == 114) (get_or text 4 0 == 97) false))
+-- whether such a reply says that something changed
+abbrev says_change : Kind → Bool
+says_change handle_kind = true
+says_change (word_kind w) = is_removal (reply_named w)
+says_change other_kind = false
 
-abbrev is_change : Reply → Bool
-is_change (reply.Handle h) = true
-is_change r = is_removal r
-
-of_change : (r : Reply) → says_change (text_of r) ≡ is_change r
-of_change (reply.Compatible true) = refl
-of_change (reply.Compatible false) = refl
-of_change _ = refl
-
-of_seen : (s : SeenReply) → changes_nothing s ≡ true → says_change (seen_text s) ≡ false
+of_seen : (s : SeenReply) → changes_nothing s ≡ true → says_change (by_text (seen_text s)) ≡ false
 of_seen (seen.Handle slot ticket) e = absurd (let z : false ≡ true = e in cc)
 of_seen (seen.Word word.HasOwners) e = absurd (let z : false ≡ true = e in cc)
 of_seen (seen.Word word.NoMoreOwners) e = absurd (let z : false ≡ true = e in cc)
@@ -296,7 +292,8 @@ of_seen (seen.Word _) e = refl
 of_seen (seen.List ids) e = refl
 of_seen (seen.Count n) e = refl
 
-no_change : (r : Reply) → is_change r ≡ false → (handle_in r ≡ None) × (is_removal r ≡ false)
+no_change : (r : Reply) → says_change (kind_of r) ≡ false
+    → (handle_in r ≡ None) × (is_removal r ≡ false)
 no_change (reply.Handle h) e = absurd (let z : true ≡ false = e in cc)
 no_change _ e = (refl, e)
 
@@ -304,4 +301,4 @@ no_change _ e = (refl, e)
 pub reported_nothing : (r : Reply) (s : SeenReply) → changes_nothing s ≡ true
     → text_of r ≡ seen_text s → (handle_in r ≡ None) × (is_removal r ≡ false)
 reported_nothing r s nothing e =
-    no_change r (sym (of_change r) ∙ (ap says_change e ∙ of_seen s nothing))
+    no_change r (ap says_change (sym (of_reply r) ∙ ap by_text e) ∙ of_seen s nothing)

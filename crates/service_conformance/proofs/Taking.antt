@@ -1,7 +1,54 @@
--- Steps of a service, by the registry that takes them.
-use Rattle.service_conformance.proofs.Prelude.{ap, subst, ℕ, ◌∙◌, ◌≡◌}
-use Rattle.service_conformance.proofs.Names.{Changes, ContainerState, First, IsRegistry, OnSide, PortDetails, RegistryState, Role, Second, Service, Side, at_rest, first_role, of_side, other_side, ports_at, quiet, role_at, second_role}
-use Rattle.service_conformance.proofs.Sides.{one_side}
+-- The two registries of ports, and steps of a service, by the registry that takes them.
+use Rattle.service_conformance.proofs.Names.{ap, subst, ℕ, ◌∙◌, ◌≡◌, Changes, ContainerState, First, IsRegistry, OnSide, PortDetails, RegistryState, Role, Second, Service, Side, at_rest, first_role, of_side, other_side, ports_at, quiet, role_at, second_role, arith, inl, inr, refl, suc, sym, zero, ◌<◌, Handle, IsEither, IsNeither, IsPortRegistry, IsService, MayGive, MayGiveIn, PatternKind, Ports, part_at, with_ports_at}
+use Rattle.iox2_dynamic.proofs.Rooms.{roles_differ}
+
+pub positive : (n : ℕ) → (n ≡ 0 → ⊥) → 0 < n
+positive zero h = absurd (h refl)
+positive (suc n) h = omega arith
+
+-- a role is that of one side
+pub one_side : (p : PatternKind) (side at : Side) (role : Role) → role ≡ role_at p side
+    → role ≡ role_at p at → at ≡ side
+one_side p First First role e f = refl
+one_side p First Second role e f = absurd (roles_differ p (sym e ∙ f))
+one_side p Second First role e f = absurd (roles_differ p (sym f ∙ e))
+one_side p Second Second role e f = refl
+
+pub has_role : (p : PatternKind) (side : Side) (role : Role) → role ≡ role_at p side
+    → IsEither (first_role p) (second_role p) role
+has_role p First role e = inl e
+has_role p Second role e = inr e
+
+pub lacks : (p : PatternKind) (role : Role) → IsNeither (first_role p) (second_role p) role
+    → IsEither (first_role p) (second_role p) role → ⊥
+lacks p role n (inl e) = n.0 e
+lacks p role n (inr e) = n.1 e
+
+pub ports_are : (s : Service) (side : Side) → IsService s
+    → IsPortRegistry s.nodes.registry (role_at s.pattern side) (ports_at s side).registry
+ports_are s First i = i.ports_are.first
+ports_are s Second i = i.ports_are.second
+
+pub given_at : (s : Service) (side : Side) (h : Handle) → MayGive (ports_at s side).registry h
+    → MayGiveIn s (part_at side) h
+given_at s First h m = m
+given_at s Second h m = m
+
+pub may_give_at : (s : Service) (side : Side) (h : Handle) → MayGiveIn s (part_at side) h
+    → MayGive (ports_at s side).registry h
+may_give_at s First h m = m
+may_give_at s Second h m = m
+
+-- a step of one registry
+pub steps_at : (p : PatternKind) (side : Side) (old : Ports) (role : Role)
+    (Step : ContainerState PortDetails → ContainerState PortDetails → Type 0)
+    (new : ContainerState PortDetails) → role ≡ role_at p side
+    → Step (of_side side old.first old.second) new
+    → OnSide (first_role p) (second_role p) old role Step (with_ports_at side old new)
+steps_at p First old role Step new e s =
+    record { side = First; role_is = e; step = s; others = refl }
+steps_at p Second old role Step new e s =
+    record { side = Second; role_is = e; step = s; others = refl }
 
 -- a registry of a service: where it stands, and the service with another one there
 pub record Place (T : Type 0) : Type 0 where
@@ -19,6 +66,12 @@ abbrev pub at_side : Side → Service → RegistryState PortDetails → Service
 at_side side s m =
     at_rest s.pattern s.nodes.registry (of_side side m s.ports.first.registry)
     (of_side side s.ports.second.registry m)
+
+-- those are its ports of this kind then
+pub its_ports : (side : Side) (s : Service) (n : RegistryState PortDetails)
+    → (ports_at (at_side side s n) side).registry ≡ n
+its_ports First s n = refl
+its_ports Second s n = refl
 
 abbrev pub of_ports : Side → Place PortDetails
 of_ports side = record { at = λ (s : Service). (ports_at s side).registry; put = at_side side }

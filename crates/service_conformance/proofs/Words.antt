@@ -1,7 +1,5 @@
 -- What words tell.
-use Rattle.service_conformance.proofs.Prelude.{All-map, List, None, Option, Some, [], ap, append-nil, append_assoc, append_cancel_left, arith, codes, decimal, decimal_injective, map, refl, subst, sym, ℕ, ◌++◌, ◌+◌, ◌<◌, ◌^◌, ◌∙◌, ◌∷◌, ◌≡◌, ◌≢◌, get_or-map, length-map, false, inl, inr, ◌⊎◌}
-use Rattle.service_conformance.proofs.Names.{AllowsWords, ArePossible, ArePossibleWords, Bytes, EndsNumber, Entry, Handle, IsCovered, IsNextHandle, IsNextIn, IsSameReply, MayGive, MayGiveIn, NextHandle, Part, RegistryState, Reply, Request, Service, Spelling, ReadsReplyHandle, after, cons_same, handle_words, line_end, number_one, request_command, sequence, text_of, handle_in, is_removal}
-use Rattle.std.proofs.Common.{All}
+use Rattle.service_conformance.proofs.Names.{All-map, List, None, Option, Some, [], ap, append-nil, append_assoc, append_cancel_left, arith, codes, decimal, decimal_injective, map, refl, subst, sym, ℕ, ◌++◌, ◌+◌, ◌<◌, ◌^◌, ◌∙◌, ◌∷◌, ◌≡◌, ◌≢◌, get_or-map, length-map, false, inl, inr, ◌⊎◌, AllowsWords, ArePossible, ArePossibleWords, Bytes, EndsNumber, Entry, Handle, IsCovered, IsNextHandle, IsNextIn, IsSameReply, MayGive, MayGiveIn, NextHandle, Part, RegistryState, Reply, Request, Service, Spelling, ReadsReplyHandle, after, cons_same, handle_words, line_end, number_one, request_command, sequence, text_of, handle_in, is_removal, All}
 use Rattle.service_descriptions.specs.declared.replay.machine.reply.Reply.TheVariants as reply
 use Rattle.service_descriptions.proofs.Lines.{any_fits, any_number}
 use Rattle.service_conformance.specs.declared.conformance.possible.Part.TheVariants as part

@@ -1,6 +1,6 @@
--- Calls as they were seen, and what they do.
+-- Commands as they were called, calls as they were seen, and what they do.
 use Rattle.std.specs.Prelude.{◌+◌, ◌<◌, ◌↔◌, ◌∷◌, ◌≡◌, List, None, Option, Some, [], slice_get, ℕ, ◌≢◌, AllPairs}
-use Rattle.service_conformance.specs.Prelude.{Command, Handle, IsService, Reply, Serves, Service, option_map, text_of}
+use Rattle.service_conformance.specs.Prelude.{ByPort, Command, Handle, IsService, Reply, Serves, Service, option_map, plain_of, text_of}
 use Rattle.histories.specs.Histories.{AreAll}
 use Rattle.iox2_container.specs.declared.container.role.Role.{Role}
 use Rattle.iox2_container.specs.declared.container.role.Role.TheVariants as role
@@ -13,8 +13,30 @@ use Rattle.service_conformance.specs.Possible.{MayGiveIn}
 use Rattle.service_conformance.specs.Quiet.{quiet}
 use Rattle.service_conformance.specs.Words.{AllowsWords}
 use Rattle.service_conformance.specs.declared.conformance.seen_call.SeenCall.TheInside.{Inside}
-use Rattle.service_conformance.specs.Requests.{request_command, request_handle}
+use Rattle.service_conformance.specs.declared.conformance.request.Request.{Request}
+use Rattle.service_conformance.specs.declared.conformance.request.Request.TheVariants as request
 use Rattle.service_conformance.specs.Seen.{seen_text}
+
+-- the command, which names its handle as command 0
+abbrev pub request_command : Request → Command
+request_command (request.Register id) = command.Register id
+request_command (request.Deregister handle) = command.Deregister 0
+request_command request.Nodes = command.Nodes
+request_command (request.Add port) = command.Add (plain_of port)
+request_command (request.Release handle) = command.Release 0
+request_command (request.List role) = command.List role
+request_command (request.Count role) = command.Count role
+request_command (request.Dead node kept) = command.Dead node (ByPort kept)
+
+-- the handle that it names, or none
+abbrev pub request_handle : Request → Option Handle
+request_handle (request.Deregister handle) = handle
+request_handle (request.Release handle) = handle
+request_handle _ = None
+
+-- with this reply it leads from one service to another
+abbrev pub ServesRequest : Request → Service → Reply → Service → Type 0
+ServesRequest a old r new = Serves old None (request_handle a ∷ []) (request_command a) r new
 
 -- A call: its command, the handle that the command names, if it names one, and the words of the
 -- reply that was seen, or none. The command names it as command 0.

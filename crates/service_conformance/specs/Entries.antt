@@ -1,6 +1,6 @@
--- Entries by rising slot, and handles.
-use Rattle.std.specs.Prelude.{◌<◌, ◌≡◌, ◌≢◌, ◌≤◌, All, List, None, Option, Some, drop, false, length, slice_get, take, true, ℕ}
-use Rattle.service_conformance.specs.Prelude.{ContainerAddFailure, Entry, Handle, IsFull, IsLocked, OutOfSpace, RegistryState, ReleaseMode, TakesEntry, handle_of, lock_after}
+-- Entries by rising slot, handles, and the number by which a service is found among many.
+use Rattle.std.specs.Prelude.{◌%◌, ◌*◌, ◌+◌, ◌<◌, ◌≡◌, ◌≢◌, ◌≤◌, All, List, None, Option, Some, drop, false, fold, length, slice_get, take, true, ℕ}
+use Rattle.service_conformance.specs.Prelude.{ContainerAddFailure, Entry, Handle, IsFull, IsLocked, OutOfSpace, RegistryState, ReleaseMode, Service, TakesEntry, handle_of, lock_after}
 
 -- an entry of this slot may be put in the position
 pub record IsFreePosition {T : Type 0} (es : List (Entry T)) (slot position : ℕ) : Type 0 where
@@ -47,3 +47,17 @@ with_left r mode left = record r {
   entries = left;
   locked = lock_after mode (length r.entries) (length left) r.locked;
 }
+
+-- a number, with one slot more
+abbrev pub slot_hash : ℕ → ℕ → ℕ
+slot_hash hash slot = (hash % 1021 * 31 + slot % 1021) % 1021
+
+-- a number, with the slots of these entries in turn
+abbrev pub entries_hash : {T : Type 0} → ℕ → List (Entry T) → ℕ
+entries_hash hash es = fold (λ h e. slot_hash h e.slot) hash es
+
+-- the number of a service: the slots count in which its nodes and ports are
+abbrev pub service_hash : Service → ℕ
+service_hash s =
+    entries_hash (entries_hash (entries_hash 0 s.nodes.registry.entries)
+    s.ports.first.registry.entries) s.ports.second.registry.entries

@@ -16,7 +16,6 @@ pub use Rattle.iox2_dynamic.specs.Ports.{IsNeither, Ports, has_ports_of}
 pub use Rattle.iox2_dynamic.specs.PortsState.{Side, of_side}
 pub use Rattle.iox2_dynamic.specs.PortsState.Side.{First, Second}
 pub use Rattle.iox2_dynamic.specs.Service.{IsService, Service, first_role, role_at, second_role}
-pub use Rattle.iox2_dynamic.specs.declared.dynamic_config.answers.DeregisterNodeState.{DeregisterNodeState}
 pub use Rattle.iox2_dynamic.specs.declared.dynamic_config.port_details.PortDetails.{PortDetails}
 pub use Rattle.iox2_ids.specs.Packing.{hexadecimal}
 pub use Rattle.iox2_ids.specs.PortId.{port_value}

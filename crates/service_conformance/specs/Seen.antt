@@ -1,5 +1,5 @@
 -- What the words of replies say.
-use Rattle.std.specs.Prelude.{◌++◌, ◌<◌, ◌^◌, ◌≡◌, All, Bool, List, None, Option, Some, codes, false, get_or, true, ℕ}
+use Rattle.std.specs.Prelude.{◌++◌, ◌<◌, ◌^◌, ◌≡◌, All, Bool, List, codes, false, get_or, true, ℕ}
 use Rattle.service_conformance.specs.Prelude.{IsId, Reply, Spelling, decimal, flat_map, hexadecimal, id_word, port_of, port_value, text_of}
 use Rattle.service_descriptions.specs.declared.replay.machine.reply.Reply.TheVariants as reply
 use Rattle.service_conformance.specs.declared.conformance.seen_reply.ReplyWord.{ReplyWord}
@@ -51,20 +51,6 @@ IsToLine (reply.Compatible can) = ⊥
 IsToLine reply.NoAlignments = ⊥
 IsToLine reply.NoDescription = ⊥
 IsToLine _ = Unit {0}
-
--- the reply without numbers that it is, if it is one
-abbrev pub word_of : Reply → Option ReplyWord
-word_of reply.Locked = Some word.Locked
-word_of reply.Full = Some word.Full
-word_of reply.NotRegistered = Some word.NotRegistered
-word_of reply.HasOwners = Some word.HasOwners
-word_of reply.NoMoreOwners = Some word.NoMoreOwners
-word_of reply.PortsAttached = Some word.PortsAttached
-word_of reply.Released = Some word.Released
-word_of reply.NotOwned = Some word.NotOwned
-word_of reply.NoHandle = Some word.NoHandle
-word_of reply.WrongPattern = Some word.WrongPattern
-word_of _ = None
 
 -- whether a reply that says so says that nothing changed
 abbrev pub changes_nothing : SeenReply → Bool

@@ -1,7 +1,7 @@
 //! The calls of a history, as a machine.
 ghost use Rattle.std.specs.Prelude.{IfNone, IfSome};
 ghost use Rattle.service_conformance.specs.Calls.{HasNumber, LacksNumber};
-ghost use Rattle.service_conformance.specs.Hashes.{service_hash};
+ghost use Rattle.service_conformance.specs.Entries.{service_hash};
 ghost use Rattle.service_conformance.specs.Judged.{WindowStep};
 ghost use Rattle.service_conformance.specs.Movers.{ChangesAt};
 

@@ -1,6 +1,6 @@
 //! Calls that can be made before others, wherever they can be made right after them.
 ghost use Rattle.std.specs.Prelude.{IfSome, IsTrue, Some};
-ghost use Rattle.service_conformance.specs.Requests.{request_command, request_handle};
+ghost use Rattle.service_conformance.specs.Calls.{request_command, request_handle};
 ghost use Rattle.service_conformance.specs.Movers.{CanPrecede, IsChange};
 ghost use Rattle.service_conformance.specs.Seen.{seen_text};
 

@@ -13,7 +13,7 @@ ghost use Rattle.service_conformance.specs.Dead.{stays, without_node, without_po
 ghost use Rattle.service_conformance.specs.Entries.{MayGive, Refuses, StandsAt, slot_entry};
 ghost use Rattle.service_conformance.specs.Given.{Becomes, IsBefore, IsUnused, MayStand, StandsLast};
 ghost use Rattle.service_conformance.specs.Given.{UsedSo};
-ghost use Rattle.service_conformance.specs.Hashes.{entries_hash};
+ghost use Rattle.service_conformance.specs.Entries.{entries_hash};
 ghost use Rattle.service_conformance.specs.Words.{IsNextHandle, ReadsReplyHandle, handle_words};
 
 use super::possible::NextHandle;

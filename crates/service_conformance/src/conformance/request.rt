@@ -1,6 +1,6 @@
 //! Commands as they were called.
 ghost use Rattle.std.specs.Prelude.{◌≡◌};
-ghost use Rattle.service_conformance.specs.Requests.{request_command, request_handle};
+ghost use Rattle.service_conformance.specs.Calls.{request_command, request_handle};
 ghost use Rattle.service_conformance.specs.Calls.{at_first, command_adds, handle_for};
 ghost use Rattle.service_descriptions.specs.Lines.{command_of};
 

@@ -10,7 +10,7 @@ ghost use Rattle.service_conformance.specs.Given.{GivesPorts};
 ghost use Rattle.service_conformance.specs.Quiet.{ports_at_rest, quiet};
 ghost use Rattle.iox2_dynamic.specs.PortsState.{side_of};
 ghost use Rattle.service_conformance.specs.Sides.{HasPart, LacksPart, ports_at};
-ghost use Rattle.service_conformance.specs.Hashes.{service_hash};
+ghost use Rattle.service_conformance.specs.Entries.{service_hash};
 
 mod following;
 mod replies_possible;

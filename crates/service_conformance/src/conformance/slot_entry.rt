@@ -4,8 +4,7 @@ ghost use Rattle.std.specs.Prelude.{◌↔◌, IfOk, IsTrue, map};
 ghost use Rattle.iox2_container.specs.Steps.{is_of};
 ghost use Rattle.iox2_dynamic.specs.Details.{node_of};
 ghost use Rattle.service_conformance.specs.Dead.{goes, is_kept, stays};
-ghost use Rattle.service_conformance.specs.Entries.{HasAt, IsAt, IsFreePosition};
-ghost use Rattle.service_conformance.specs.Hashes.{entries_hash};
+ghost use Rattle.service_conformance.specs.Entries.{HasAt, IsAt, IsFreePosition, entries_hash};
 
 use super::same::Same;
 use iox2_dynamic::dynamic_config::PortDetails;

@@ -1,5 +1,5 @@
 use Rattle.histories.proofs.Words.{ap, append-nil, arith, length}
-use Rattle.histories.proofs.Goings.{end_upto, one_done, two_done}
+use Rattle.histories.proofs.Following.{end_upto, one_done, two_done}
 use Rattle.histories.proofs.follow.go_on.Goals as goal
 
 pub loop-at-init : goal.loop-at-init

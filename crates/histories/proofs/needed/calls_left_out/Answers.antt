@@ -1,14 +1,10 @@
 use Rattle.histories.proofs.Words.{IfOk-weaker, refl}
 use Rattle.histories.proofs.Following.{history_past}
-use Rattle.histories.proofs.Shrinking.{refused_window, rest_none}
-use Rattle.histories.proofs.Trying.{formed_inside}
+use Rattle.histories.proofs.Leaving.{refused_window, rest_none, formed_inside}
 use Rattle.histories.proofs.needed.calls_left_out.Goals as goal
 
-pub states_left-requires : goal.states_left-requires
-states_left-requires g c = record {
-  some = c.requires.some;
-  history = history_past _ _ c.requires.history;
-}
+pub states_left-requires-clause-history : goal.states_left-requires-clause-history
+states_left-requires-clause-history g c = history_past _ _ c.requires.history
 
 pub shrink-requires : goal.shrink-requires
 shrink-requires g c = record {

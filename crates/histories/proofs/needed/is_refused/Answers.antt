@@ -1,9 +1,6 @@
 use Rattle.histories.proofs.Words.{eqb-true}
-use Rattle.histories.proofs.Shrinking.{tried_done, tried_refused}
+use Rattle.histories.proofs.Leaving.{tried_done, tried_refused}
 use Rattle.histories.proofs.needed.is_refused.Goals as goal
-
-pub loop-at-init : goal.loop-at-init
-loop-at-init g c = c.in_ok-front.ensures c.args.machine.now
 
 pub loop-at-preserved : goal.loop-at-preserved
 loop-at-preserved g c =

@@ -1,6 +1,5 @@
 use Rattle.histories.proofs.Words.{Bool, List, ◌∙◌, ap, events_of, is_kept}
-use Rattle.histories.proofs.Shrinking.{rest_back, rest_more}
-use Rattle.histories.proofs.Trying.{formed_rest}
+use Rattle.histories.proofs.Leaving.{rest_back, rest_more, formed_rest}
 use Rattle.histories.proofs.needed.leave_out.Goals as goal
 
 pub is_refused-requires : goal.is_refused-requires

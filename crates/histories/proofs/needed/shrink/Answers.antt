@@ -1,6 +1,5 @@
 use Rattle.histories.proofs.Words.{◌∙◌, is_kept, IfOk-weaker}
-use Rattle.histories.proofs.Shrinking.{rest_all}
-use Rattle.histories.proofs.Trying.{formed_rest}
+use Rattle.histories.proofs.Leaving.{rest_all, formed_rest}
 use Rattle.histories.proofs.needed.shrink.Goals as goal
 
 pub is_refused-requires : goal.is_refused-requires
@@ -14,6 +13,3 @@ returns-then-branch g c =
     IfOk-weaker c.from_slice.result _ _ (λ v same. rw same (rest_all _ _ _ _ c.requires.idle
     (rw (c.deref.ensures.value ∙ c.in_ok-rest.ensures) at
     (c.in_ok-is_refused.ensures c.if-branch.true)))) c.from_slice.ensures.items
-
-pub returns : goal.returns
-returns g c = c.one_by_one.ensures

@@ -1,4 +1,4 @@
-use Rattle.histories.proofs.Shrinking.{cut_states}
+use Rattle.histories.proofs.Leaving.{cut_states}
 use Rattle.histories.proofs.needed.states_left.Goals as goal
 
 pub returns : goal.returns

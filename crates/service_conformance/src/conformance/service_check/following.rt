@@ -1,6 +1,6 @@
 //! The state that a reply leaves.
 ghost use Rattle.std.specs.Prelude.{◌≡◌, OnOk, OnErr};
-ghost use Rattle.service_conformance.specs.Requests.{ServesRequest};
+ghost use Rattle.service_conformance.specs.Calls.{ServesRequest};
 ghost use Rattle.service_conformance.specs.Possible.{reply_in};
 ghost use Rattle.service_conformance.specs.Quiet.{CanServe, LeadsTo};
 ghost use Rattle.service_descriptions.specs.Cleanups.{ServesDead};

@@ -7,7 +7,7 @@ ghost use Rattle.iox2_dynamic.specs.Service.{IsService};
 ghost use Rattle.service_conformance.specs.Looks.{ids_in};
 ghost use Rattle.service_conformance.specs.Possible.{ArePossible, MayGiveIn, reply_in};
 ghost use Rattle.service_conformance.specs.Quiet.{Reports, quiet};
-ghost use Rattle.service_conformance.specs.Requests.{ServesRequest};
+ghost use Rattle.service_conformance.specs.Calls.{ServesRequest};
 ghost use Rattle.service_conformance.specs.Seen.{seen_text};
 ghost use Rattle.service_conformance.specs.Words.{ArePossibleWords, IsNextIn, ReadsReply, ReadsReplyHandle, handle_words};
 ghost use Rattle.service_descriptions.specs.Cleanups.{ServesDead};

@@ -1,5 +1,4 @@
-use Rattle.service_conformance.proofs.Prelude.{List, [], ap, map, refl, ◌∙◌, ◌∷◌}
-use Rattle.service_conformance.proofs.Names.{Look, Service, Watched, watched}
+use Rattle.service_conformance.proofs.Names.{List, [], ap, map, refl, ◌∙◌, ◌∷◌, Look, Service, Watched, watched}
 use Rattle.service_conformance.proofs.Judged.{follow_leaves}
 use Rattle.service_conformance.proofs.conformance.judged_call.follow_call.Goals as goal
 

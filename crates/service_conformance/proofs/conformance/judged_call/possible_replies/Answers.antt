@@ -1,5 +1,4 @@
-use Rattle.service_conformance.proofs.Prelude.{refl, subst, ◌≡◌}
-use Rattle.service_conformance.proofs.Names.{AreJudgedReplies, stops}
+use Rattle.service_conformance.proofs.Names.{refl, subst, ◌≡◌, AreJudgedReplies, stops}
 use Rattle.service_conformance.specs.declared.conformance.possible.PossibleReplies.TheVariants as replies
 use Rattle.service_conformance.proofs.conformance.judged_call.possible_replies.Goals as goal
 

@@ -1,5 +1,4 @@
-use Rattle.std.proofs.Common.{◌≡◌, map, take}
-use Rattle.service_conformance.specs.Looks.{watched}
+use Rattle.service_conformance.proofs.Names.{◌≡◌, map, take, watched}
 use Rattle.service_conformance.proofs.conformance.judged_call.watched_all.Given as goal
 
 abbrev pub invariant-loop-service : goal.invariant-loop-service

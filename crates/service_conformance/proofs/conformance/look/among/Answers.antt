@@ -1,5 +1,4 @@
-use Rattle.service_conformance.proofs.Prelude.{ap, filter, filter_same, rules, ◌∙◌}
-use Rattle.service_conformance.proofs.Names.{is_among}
+use Rattle.service_conformance.proofs.Names.{ap, filter, filter_same, rules, ◌∙◌, is_among}
 use Rattle.service_conformance.proofs.conformance.look.among.Goals as goal
 
 pub returns : goal.returns

@@ -1,5 +1,4 @@
-use Rattle.service_conformance.proofs.Prelude.{ap, filter, filter_same, not, rules, ℕ, ◌∙◌}
-use Rattle.service_conformance.proofs.Names.{is_among}
+use Rattle.service_conformance.proofs.Names.{ap, filter, filter_same, not, rules, ℕ, ◌∙◌, is_among}
 use Rattle.service_conformance.proofs.conformance.look.without.Goals as goal
 
 pub returns : goal.returns

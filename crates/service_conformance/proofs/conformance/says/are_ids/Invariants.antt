@@ -1,6 +1,5 @@
 use Rattle.std.proofs.Common.{length, ◌-◌, ◌≡◌, ◌≤◌, map}
-use Rattle.service_conformance.proofs.Names.{id_word}
-use Rattle.service_conformance.proofs.Prelude.{flat_map, ◌↔◌}
+use Rattle.service_conformance.proofs.Names.{flat_map, ◌↔◌, id_word}
 use Rattle.service_conformance.proofs.Seen.{AreAlike}
 use Rattle.service_conformance.proofs.conformance.says.are_ids.Given as goal
 

@@ -1,5 +1,4 @@
-use Rattle.std.proofs.Common.{◌≡◌, ◌<◌, ◌^◌, rules, sym, ◌∙◌, ap, subst}
-use Rattle.service_conformance.specs.Words.{handle_words}
+use Rattle.service_conformance.proofs.Names.{◌≡◌, ◌<◌, ◌^◌, rules, sym, ◌∙◌, ap, subst, handle_words}
 use Rattle.service_conformance.proofs.Words.{parts_same, slots_same}
 use Rattle.service_conformance.proofs.conformance.says.is_handle.Goals as goal
 

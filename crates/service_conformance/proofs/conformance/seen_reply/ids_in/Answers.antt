@@ -1,4 +1,4 @@
-use Rattle.service_conformance.proofs.Prelude.{map-id, rules, ℕ}
+use Rattle.service_conformance.proofs.Names.{map-id, rules, ℕ}
 use Rattle.service_conformance.proofs.Seen.{ids_found, more_than_ids, no_ids}
 use Rattle.service_conformance.proofs.conformance.seen_reply.ids_in.Goals as goal
 

@@ -1,5 +1,4 @@
-use Rattle.std.proofs.Common.{◌∙◌, [], sym}
-use Rattle.std.proofs.lemmas.List.{append-nil}
+use Rattle.service_conformance.proofs.Names.{◌∙◌, [], sym, append-nil}
 use Rattle.service_conformance.proofs.conformance.seen_reply.is_word.Goals as goal
 
 pub returns-in-None-clause-no : goal.returns-in-None-clause-no

@@ -1,5 +1,5 @@
-use Rattle.service_conformance.proofs.Prelude.{answers_always, rules}
-use Rattle.service_conformance.proofs.Rising.{searched}
+use Rattle.service_conformance.proofs.Names.{answers_always, rules}
+use Rattle.service_conformance.proofs.Registries.{searched}
 use Rattle.service_conformance.proofs.conformance.slot_entry.free_position.Goals as goal
 
 pub returns : goal.returns

@@ -1,6 +1,5 @@
-use Rattle.service_conformance.proofs.Prelude.{IsFirst-from_position, YieldsList-from_slice, rules, tests}
-use Rattle.service_conformance.proofs.Names.{IsAt}
-use Rattle.service_conformance.proofs.Rising.{first_at}
+use Rattle.service_conformance.proofs.Names.{IsFirst-from_position, YieldsList-from_slice, rules, tests, IsAt}
+use Rattle.service_conformance.proofs.Registries.{first_at}
 use Rattle.service_conformance.proofs.conformance.slot_entry.position_with.Goals as goal
 
 pub returns-clause-some : goal.returns-clause-some

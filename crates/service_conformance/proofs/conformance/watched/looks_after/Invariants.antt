@@ -1,5 +1,4 @@
-use Rattle.std.proofs.Common.{◌≡◌, take}
-use Rattle.service_conformance.specs.Looks.{looks_after}
+use Rattle.service_conformance.proofs.Names.{◌≡◌, take, looks_after}
 use Rattle.service_conformance.proofs.conformance.watched.looks_after.Given as goal
 
 abbrev pub invariant-loop-look : goal.invariant-loop-look

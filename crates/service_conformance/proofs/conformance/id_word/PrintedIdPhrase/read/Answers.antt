@@ -1,5 +1,4 @@
-use Rattle.service_conformance.proofs.Prelude.{sym, ◌∙◌}
-use Rattle.service_conformance.proofs.Names.{apart, has_no_space, hexadecimal}
+use Rattle.service_conformance.proofs.Names.{sym, ◌∙◌, apart, has_no_space, hexadecimal}
 use Rattle.service_conformance.proofs.conformance.id_word.PrintedIdPhrase.read.Goals as goal
 
 pub returns-in_default-clause-read : goal.returns-in_default-clause-read

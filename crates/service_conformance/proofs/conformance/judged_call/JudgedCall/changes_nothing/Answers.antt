@@ -1,5 +1,4 @@
-use Rattle.service_conformance.proofs.Prelude.{refl, subst, sym, ◌≡◌}
-use Rattle.service_conformance.proofs.Names.{JudgedStep, call}
+use Rattle.service_conformance.proofs.Names.{refl, subst, sym, ◌≡◌, JudgedStep, call}
 use Rattle.service_conformance.proofs.Judged.{changes_none}
 use Rattle.service_conformance.proofs.conformance.judged_call.JudgedCall.changes_nothing.Goals as goal
 

@@ -1,5 +1,4 @@
-use Rattle.service_conformance.proofs.Prelude.{refl, subst, sym, ◌≡◌}
-use Rattle.service_conformance.proofs.Names.{CallLeaves, CallStep, JudgedStep, call}
+use Rattle.service_conformance.proofs.Names.{refl, subst, sym, ◌≡◌, CallLeaves, CallStep, JudgedStep, call}
 use Rattle.service_conformance.proofs.conformance.judged_call.JudgedCall.is_blocked.Goals as goal
 
 pub returns-in-Call : goal.returns-in-Call

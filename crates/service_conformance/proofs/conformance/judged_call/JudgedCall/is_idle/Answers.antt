@@ -1,5 +1,4 @@
-use Rattle.service_conformance.proofs.Prelude.{refl, subst, ◌≡◌}
-use Rattle.service_conformance.proofs.Names.{IsIdleCall, IsIdleJudged, JudgedStep, call}
+use Rattle.service_conformance.proofs.Names.{refl, subst, ◌≡◌, IsIdleCall, IsIdleJudged, JudgedStep, call}
 use Rattle.service_conformance.proofs.Judged.{idle_leaves}
 use Rattle.service_conformance.proofs.conformance.judged_call.JudgedCall.is_idle.Goals as goal
 

@@ -1,7 +1,5 @@
-use Rattle.service_conformance.proofs.Prelude.{filter, filter_same, not, rules, subst, sym, ℕ, ◌≡◌}
-use Rattle.service_conformance.proofs.Names.{Entry, IsRegistry, LockIfLastIndex, is_of}
-use Rattle.service_conformance.proofs.Filters.{kept_filter}
-use Rattle.service_conformance.proofs.Removes.{with_left_is}
+use Rattle.service_conformance.proofs.Names.{filter, filter_same, not, rules, subst, sym, ℕ, ◌≡◌, Entry, IsRegistry, LockIfLastIndex, is_of}
+use Rattle.service_conformance.proofs.Registries.{kept_filter, with_left_is}
 use Rattle.service_conformance.proofs.conformance.registry_check.RegistryCheck+UniqueNodeId.recover.Goals as goal
 
 pub returns : goal.returns

@@ -1,6 +1,5 @@
-use Rattle.std.proofs.Common.{sym, subst, rules}
-use Rattle.iox2_container.specs.State.{IsRegistry}
-use Rattle.service_conformance.proofs.Adds.{given, with_entry_is}
+use Rattle.service_conformance.proofs.Names.{sym, subst, rules, IsRegistry}
+use Rattle.service_conformance.proofs.Registries.{given, with_entry_is}
 use Rattle.service_conformance.proofs.conformance.registry_check.RegistryCheck.enter.Goals as goal
 
 pub invariant_of-self-2 : goal.invariant_of-self-2

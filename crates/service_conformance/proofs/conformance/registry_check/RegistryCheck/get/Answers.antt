@@ -1,5 +1,5 @@
 use Rattle.std.proofs.Common.{◌≡◌, get_or, subst}
-use Rattle.service_conformance.proofs.Removes.{has_read}
+use Rattle.service_conformance.proofs.Registries.{has_read}
 use Rattle.service_conformance.proofs.conformance.registry_check.RegistryCheck.get.Goals as goal
 
 pub returns-clause-some : goal.returns-clause-some

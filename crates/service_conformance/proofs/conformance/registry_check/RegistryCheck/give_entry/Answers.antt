@@ -1,5 +1,4 @@
-use Rattle.service_conformance.proofs.Prelude.{refl, rules, subst, sym}
-use Rattle.service_conformance.proofs.Names.{IsRegistry, slot_entry}
+use Rattle.service_conformance.proofs.Names.{refl, rules, subst, sym, IsRegistry, slot_entry}
 use Rattle.service_conformance.proofs.Given.{last_is, stands_is, stands_only}
 use Rattle.service_conformance.proofs.conformance.registry_check.RegistryCheck.give_entry.Goals as goal
 

@@ -1,5 +1,4 @@
-use Rattle.service_conformance.proofs.Prelude.{All, ap, subst, sym, ◌∙◌}
-use Rattle.service_conformance.proofs.Names.{IsBefore}
+use Rattle.service_conformance.proofs.Names.{All, ap, subst, sym, ◌∙◌, IsBefore}
 use Rattle.service_conformance.proofs.conformance.registry_check.RegistryCheck.may_stand.Goals as goal
 
 pub returns-then-ticket-self-clause-no : goal.returns-then-ticket-self-clause-no

@@ -1,5 +1,5 @@
 use Rattle.std.proofs.Common.{rules}
-use Rattle.service_conformance.proofs.Adds.{free_in, not_free}
+use Rattle.service_conformance.proofs.Registries.{free_in, not_free}
 use Rattle.service_conformance.proofs.conformance.registry_check.RegistryCheck.next.Goals as goal
 
 pub returns-in_default-clause-none : goal.returns-in_default-clause-none

@@ -1,5 +1,5 @@
 use Rattle.std.proofs.Common.{rules}
-use Rattle.service_conformance.proofs.Removes.{stands_at}
+use Rattle.service_conformance.proofs.Registries.{stands_at}
 use Rattle.service_conformance.proofs.conformance.registry_check.RegistryCheck.position.Goals as goal
 
 pub returns-clause-some : goal.returns-clause-some

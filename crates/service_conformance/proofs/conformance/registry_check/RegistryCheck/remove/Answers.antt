@@ -1,5 +1,5 @@
 use Rattle.std.proofs.Common.{rules}
-use Rattle.service_conformance.proofs.Removes.{only_gone}
+use Rattle.service_conformance.proofs.Registries.{only_gone}
 use Rattle.service_conformance.proofs.conformance.registry_check.RegistryCheck.remove.Goals as goal
 
 pub invariant_of-self : goal.invariant_of-self

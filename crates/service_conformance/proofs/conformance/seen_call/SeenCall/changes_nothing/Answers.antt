@@ -1,5 +1,4 @@
-use Rattle.service_conformance.proofs.Prelude.{Some, refl, subst, sym, ◌∙◌, ◌≡◌}
-use Rattle.service_conformance.proofs.Names.{IsCovered, seen_text}
+use Rattle.service_conformance.proofs.Names.{Some, refl, subst, sym, ◌∙◌, ◌≡◌, IsCovered, seen_text}
 use Rattle.service_conformance.proofs.Calls.{changes_none}
 use Rattle.service_conformance.proofs.Words.{request_covered}
 use Rattle.service_conformance.proofs.conformance.seen_call.SeenCall.changes_nothing.Goals as goal

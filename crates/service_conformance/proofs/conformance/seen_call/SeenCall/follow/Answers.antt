@@ -1,5 +1,4 @@
-use Rattle.service_conformance.proofs.Prelude.{[], ◌∷◌}
-use Rattle.service_conformance.proofs.Names.{CallStep, reply_in, seen_text}
+use Rattle.service_conformance.proofs.Names.{[], ◌∷◌, CallStep, reply_in, seen_text}
 use Rattle.service_conformance.proofs.Calls.{enough, seen_one}
 use Rattle.service_conformance.proofs.conformance.seen_call.SeenCall.follow.Goals as goal
 

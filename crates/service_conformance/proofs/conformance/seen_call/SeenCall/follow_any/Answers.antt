@@ -1,5 +1,4 @@
-use Rattle.service_conformance.proofs.Prelude.{[], ◌∷◌}
-use Rattle.service_conformance.proofs.Names.{CallStep}
+use Rattle.service_conformance.proofs.Names.{[], ◌∷◌, CallStep}
 use Rattle.service_conformance.proofs.Calls.{any_one, enough}
 use Rattle.service_conformance.proofs.conformance.seen_call.SeenCall.follow_any.Goals as goal
 

@@ -1,5 +1,4 @@
-use Rattle.service_conformance.proofs.Prelude.{rules, true, ◌≡◌}
-use Rattle.service_conformance.proofs.Names.{changes_nothing, reply_in}
+use Rattle.service_conformance.proofs.Names.{rules, true, ◌≡◌, changes_nothing, reply_in}
 use Rattle.service_conformance.proofs.Calls.{idle}
 use Rattle.service_conformance.proofs.conformance.seen_call.SeenCall.is_idle.Goals as goal
 

@@ -1,5 +1,4 @@
-use Rattle.service_conformance.proofs.Prelude.{sym, ◌∙◌, ◌≡◌}
-use Rattle.service_conformance.proofs.Names.{CanServe, First, Second, ServesAdd, role_at, role_of, service_of, side_of}
+use Rattle.service_conformance.proofs.Names.{sym, ◌∙◌, ◌≡◌, CanServe, First, Second, ServesAdd, role_at, role_of, service_of, side_of}
 use Rattle.service_descriptions.specs.declared.replay.machine.reply.Reply.TheVariants as reply
 use Rattle.service_conformance.proofs.Following.{attach_enters, attach_may}
 use Rattle.service_conformance.proofs.conformance.service_check.ServiceCheck.follow_attach.Goals.{In-Some-side}

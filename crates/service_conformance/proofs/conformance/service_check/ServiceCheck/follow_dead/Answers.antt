@@ -1,5 +1,4 @@
-use Rattle.service_conformance.proofs.Prelude.{false, rules, true}
-use Rattle.service_conformance.proofs.Names.{ByPort, ServesDead, reply_in, service_of}
+use Rattle.service_conformance.proofs.Names.{false, rules, true, ByPort, ServesDead, reply_in, service_of}
 use Rattle.service_conformance.proofs.Dying.{dead_left}
 use Rattle.service_conformance.proofs.Following.{one_kept}
 use Rattle.service_conformance.proofs.conformance.service_check.ServiceCheck.follow_dead.Goals as goal

@@ -1,5 +1,4 @@
-use Rattle.service_conformance.proofs.Prelude.{rules}
-use Rattle.service_conformance.proofs.Names.{ServesDeregister, reply_in, service_of}
+use Rattle.service_conformance.proofs.Names.{rules, ServesDeregister, reply_in, service_of}
 use Rattle.service_conformance.proofs.Following.{deregister_goes, one_kept}
 use Rattle.service_conformance.proofs.conformance.service_check.ServiceCheck.follow_deregister.Goals as goal
 

@@ -1,5 +1,4 @@
-use Rattle.service_conformance.proofs.Prelude.{rules, sym, ◌∙◌, ◌≡◌}
-use Rattle.service_conformance.proofs.Names.{First, Second, ServesRelease, reply_in, role_at, service_of, side_of}
+use Rattle.service_conformance.proofs.Names.{rules, sym, ◌∙◌, ◌≡◌, First, Second, ServesRelease, reply_in, role_at, service_of, side_of}
 use Rattle.service_conformance.proofs.Following.{one_kept, release_goes}
 use Rattle.service_conformance.proofs.conformance.service_check.ServiceCheck.follow_release.Goals.{In-Some-side}
 use Rattle.service_conformance.proofs.conformance.service_check.ServiceCheck.follow_release.Goals as goal

@@ -1,5 +1,4 @@
-use Rattle.service_conformance.proofs.Prelude.{refl, rules, sym, ◌∙◌, ◌≡◌}
-use Rattle.service_conformance.proofs.Names.{First, Second, node_of, role_at, role_of, service_of, side_of}
+use Rattle.service_conformance.proofs.Names.{refl, rules, sym, ◌∙◌, ◌≡◌, First, Second, node_of, role_at, role_of, service_of, side_of}
 use Rattle.service_conformance.proofs.Given.{gives_port, has_moved, no_node}
 use Rattle.service_conformance.proofs.conformance.service_check.ServiceCheck.give_port.Goals.{In-Some}
 use Rattle.service_conformance.proofs.conformance.service_check.ServiceCheck.give_port.Goals as goal

@@ -1,5 +1,5 @@
 use Rattle.std.proofs.Common.{◌∙◌}
-use Rattle.service_conformance.proofs.Filters.{some_left}
+use Rattle.service_conformance.proofs.Registries.{some_left}
 use Rattle.service_conformance.proofs.conformance.service_check.ServiceCheck.has_left.Goals as goal
 
 pub returns : goal.returns

@@ -1,7 +1,6 @@
-use Rattle.service_conformance.proofs.Prelude.{ap, sym, ◌<◌, ◌∙◌, ◌≡◌}
-use Rattle.service_conformance.proofs.Names.{entries_of_node, node_of, possible_add, role_at, role_of, service_of, side_of}
+use Rattle.service_conformance.proofs.Names.{ap, sym, ◌<◌, ◌∙◌, ◌≡◌, entries_of_node, node_of, possible_add, role_at, role_of, service_of, side_of}
 use Rattle.service_conformance.proofs.Possibles.{locked, unregistered, attaches}
-use Rattle.service_conformance.proofs.Sides.{has_role, positive}
+use Rattle.service_conformance.proofs.Taking.{has_role, positive}
 use Rattle.service_conformance.proofs.conformance.service_check.ServiceCheck.possible_attach.Goals.{In-Some}
 use Rattle.service_conformance.proofs.conformance.service_check.ServiceCheck.possible_attach.Goals as goal
 

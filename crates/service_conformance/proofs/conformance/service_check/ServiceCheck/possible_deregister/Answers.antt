@@ -1,5 +1,5 @@
-use Rattle.service_conformance.proofs.Prelude.{ap, length, nat_eq, sym, ◌∙◌, ◌≡◌}
-use Rattle.service_conformance.proofs.Removing.{attached, leaves, unknown}
+use Rattle.service_conformance.proofs.Names.{ap, length, nat_eq, sym, ◌∙◌, ◌≡◌}
+use Rattle.service_conformance.proofs.Possibles.{attached, leaves, unknown}
 use Rattle.service_conformance.proofs.conformance.service_check.ServiceCheck.possible_deregister.Goals as goal
 
 pub returns-in_default-get : goal.returns-in_default-get

@@ -1,6 +1,5 @@
-use Rattle.service_conformance.proofs.Prelude.{sym, ◌∙◌, ◌≡◌}
-use Rattle.service_conformance.proofs.Names.{role_at, side_of}
-use Rattle.service_conformance.proofs.Removing.{released, unreleased}
+use Rattle.service_conformance.proofs.Names.{sym, ◌∙◌, ◌≡◌, role_at, side_of}
+use Rattle.service_conformance.proofs.Possibles.{released, unreleased}
 use Rattle.service_conformance.proofs.conformance.service_check.ServiceCheck.possible_release.Goals.{In-Some-side}
 use Rattle.service_conformance.proofs.conformance.service_check.ServiceCheck.possible_release.Goals as goal
 

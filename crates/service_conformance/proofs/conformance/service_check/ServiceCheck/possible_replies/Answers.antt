@@ -1,4 +1,4 @@
-use Rattle.service_conformance.specs.Requests.{ServesRequest}
+use Rattle.service_conformance.specs.Calls.{ServesRequest}
 use Rattle.service_conformance.proofs.Words.{given_words}
 use Rattle.service_conformance.proofs.conformance.service_check.ServiceCheck.possible_replies.Goals as goal
 

@@ -1,6 +1,4 @@
-use Rattle.service_conformance.proofs.Prelude.{[], subst, sym, ◌∙◌, ◌≡◌}
-use Rattle.service_conformance.proofs.Names.{CallLeaves, IsMade, Watched, watched_of}
-use Rattle.std.proofs.Common.{IfOk}
+use Rattle.service_conformance.proofs.Names.{[], subst, sym, ◌∙◌, ◌≡◌, CallLeaves, IsMade, Watched, watched_of, IfOk}
 use Rattle.service_conformance.proofs.Judged.{made_leaves, none_of}
 use Rattle.service_conformance.proofs.conformance.watched.WatchedService.make.Goals as goal
 

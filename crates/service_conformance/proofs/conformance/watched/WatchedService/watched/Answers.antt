@@ -1,5 +1,4 @@
-use Rattle.std.proofs.Common.{◌≡◌, List, subst, sym}
-use Rattle.service_conformance.specs.Looks.{Look, looks_after}
+use Rattle.service_conformance.proofs.Names.{◌≡◌, List, subst, sym, Look, looks_after}
 use Rattle.service_conformance.proofs.Looking.{looks_twice}
 use Rattle.service_conformance.proofs.conformance.watched.WatchedService.watched.Goals as goal
 
