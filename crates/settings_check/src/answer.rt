@@ -18,6 +18,7 @@ use crate::lines::{
 };
 use crate::schema::schema;
 use config_report::{default_file, settings_text};
+use iox2_config_file::SECTIONS;
 use line_streams::{Outcome, Sink, Source, Status, read_all, write_outcome, write_whole};
 use std::alloc::{AllocError, Global};
 use std::env::Args;
@@ -167,7 +168,8 @@ fn add_compared(alloc: Global, found: &mut Found<'_>) -> Result<(), AllocError>
 {
     match found.valid.as_slice() {
         [first, second, ..] => {
-            add_differences(alloc, &mut found.reports, Pair { first, second })
+            let files = Pair { first, second };
+            add_differences(alloc, &mut found.reports, files, &SECTIONS)
         }
         _ => Ok(()),
     }
