@@ -161,7 +161,8 @@ fn shown(alloc: Global, strict: bool, found: &Found<'_>) -> Result<Answer, Alloc
     })
 }
 
-/// Adds in what two files differ, if there are two without errors.
+/// Adds in what two files differ, those settings that all processes share first, if there are two
+/// without errors.
 fn add_compared(alloc: Global, found: &mut Found<'_>) -> Result<(), AllocError>
     requires { AreToml (found_view found.old).valid }
     ensures { OnOk result (found_view found.new ≡ with_compared (found_view found.old)) }
