@@ -2,4 +2,3 @@ mod AllPorts
 pub mod Lines
 pub mod Pairs
 mod Printable
-mod Same

@@ -1,6 +1,9 @@
--- The settings of two configurations, one after the other.
-use Rattle.std.proofs.Common.{◌≡◌, ℕ, zero, suc, ◌+◌, ◌≤◌, List, [], ◌∷◌, ◌++◌, length, map, drop, slice_get, Option, Some, None, refl, sym, add-one, append_assoc, append-nil, arith, length-append}
+-- The settings of two configurations, one after the other, and when two values are the same.
+use Rattle.std.proofs.Common.{◌≡◌, Bool, ℕ, zero, suc, ◌+◌, ◌≤◌, List, [], ◌∷◌, ◌++◌, length, map, drop, slice_get, Option, Some, None, refl, sym, add-one, append_assoc, append-nil, arith, length-append}
+use Rattle.std.specs.Bool.{Decides}
 use Rattle.std.specs.Prelude.{flat_map}
+use Rattle.std.proofs.lemmas.Bool.Decides.{nat_tests, same_from_decides}
+use Rattle.std.proofs.lemmas.Slice.Eq.{bytes_eq-Decides}
 use Rattle.std.proofs.lemmas.List.{length-map}
 use Rattle.std.proofs.lemmas.Option.{none-some, slice_get_past}
 use Rattle.iox2_config_file.specs.declared.fault.Kind.{Kind}
@@ -9,7 +12,7 @@ use Rattle.iox2_config_file.specs.Read.{row_view}
 use Rattle.iox2_config_file.specs.Settings.{Setting, held_at}
 use Rattle.iox2_config_file.specs.Values.{SettingValue}
 use Rattle.iox2_config_file.proofs.Rowed.{drop_at, here, keyed, row_key}
-use Rattle.config_report.specs.Text.{ValuePair, paired}
+use Rattle.config_report.specs.Text.{ValuePair, is_same, paired}
 
 abbrev pub make_pair : List ℕ → SettingValue → SettingValue → ValuePair
 make_pair key value other = record { key = key; value = value; other = other }
@@ -80,3 +83,9 @@ walk_end f rows xs ys more i out whole same past_rows before =
     let none : slice_get xs i ≡ None =
     slice_get_past xs i (grind (arith, length-map, length-append)) in
     walk_past f (paired xs ys) i out whole (rw (pair_is xs ys i, none) refl) before
+
+same_values : (a b : SettingValue) → Decides (is_same a b) (a ≡ b)
+same_values a b = grind (arith, nat_tests, bytes_eq-Decides)
+
+pub same_is : (r : Bool) (a b : SettingValue) → Decides r (a ≡ b) → r ≡ is_same a b
+same_is r a b is = same_from_decides r (is_same a b) is (same_values a b)

@@ -1,16 +1,15 @@
 //! What is found in a file of settings, or why bytes are none, and what is reported of it.
-ghost use Rattle.std.specs.Prelude.{◌≡◌, ◌++◌, ◌≤◌, ℕ, List, IfErr, IfOk, IsSome, IsUtf8, OnOk, Some, None};
+ghost use Rattle.std.specs.Prelude.{◌≡◌, ◌++◌, ◌≤◌, ℕ, List, IfErr, IfOk, IsSome, OnOk, Some, None};
 ghost use Rattle.std.specs.Prelude.{length, map, string_bytes};
-ghost use Rattle.std.specs.Str.{IsValidUpTo};
 ghost use Rattle.iox2_config_file.specs.Answers.{ReadsAll};
-ghost use Rattle.iox2_config_file.specs.Depth.{too_deep};
 ghost use Rattle.config_report.specs.Contradictions.{contradiction_note, contradiction_view};
 ghost use Rattle.config_report.specs.Contradictions.{contradictions_in};
 ghost use Rattle.config_report.specs.Findings.{Checks, Lists, topics_of};
 ghost use Rattle.config_report.specs.Notes.{finding_view, note, note_in};
-ghost use Rattle.config_report.specs.Findings.{IsNoFile, IsText, IsUnread, lines_of, ReadsFile};
+ghost use Rattle.config_report.specs.Findings.{IsNoFile, IsNoToml, IsText, IsUnread, lines_of, ReadsFile};
 ghost use Rattle.config_report.specs.Findings.{HasDefaults};
 ghost use Rattle.config_report.specs.Text.{IsReportText};
+ghost use Rattle.config_report.specs.declared.check.Unread.TheVariants.{NoMemory};
 ghost use Rattle.config_report.specs.declared.finding.Severity.TheVariants as severity;
 ghost use Rattle.toml.specs.Parse.{parse_document};
 ghost use Rattle.toml_positions.specs.Position.{position_after};
@@ -119,6 +118,14 @@ pub enum Unread {
     NoMemory(AllocError),
 }
 
+impl From<AllocError> for Unread {
+    ghost from_gives = { λ error unread. unread ≡ NoMemory error };
+
+    fn from(error: AllocError) -> Unread {
+        Unread::NoMemory(error)
+    }
+}
+
 impl Unread {
     /// What is found in the bytes, unless memory was refused.
     pub(crate) fn finding(self) -> Result<Finding, AllocError>
@@ -143,14 +150,24 @@ pub fn parse_file(alloc: Global, bytes: &[u8]) -> Result<(&str, FileContents), U
 {
     let text = match str::from_utf8(bytes) {
         Ok(text) => text,
-        Err(error) => return Err(no_utf8(alloc, bytes, error.valid_up_to())),
+        Err(error) => {
+            let valid = &bytes[..error.valid_up_to()];
+            let found = error_behind(alloc, valid, "the file is no UTF-8")?;
+            return Err(Unread::NotUtf8(found));
+        }
     };
     if let Some(before) = too_deep(text.as_bytes()) {
-        return Err(deep(alloc, text, before));
+        let passed = &text.as_bytes()[..before];
+        let words = "tables and arrays are more than 32 deep in one another";
+        let found = error_behind(alloc, passed, words)?;
+        return Err(Unread::TooDeep(found));
     }
     match read_config(alloc, text) {
         Ok(contents) => Ok((text, contents)),
-        Err(ConfigFileError::Syntax(error)) => Err(no_toml(alloc, text, &error)),
+        Err(ConfigFileError::Syntax(error)) => {
+            let found = no_toml(alloc, text, &error)?;
+            Err(Unread::NotToml(found))
+        }
         Err(ConfigFileError::NoMemory(error)) => Err(Unread::NoMemory(error)),
     }
 }
@@ -168,47 +185,16 @@ fn error_behind(alloc: Global, before: &[u8], message: &str) -> Result<Finding, 
     })
 }
 
-/// That bytes are no UTF-8 behind so many.
-fn no_utf8(alloc: Global, bytes: &[u8], valid: usize) -> Unread
-    requires { IsValidUpTo bytes.now valid }
-    ensures { ¬ IsUtf8 bytes.now → IsUnread bytes.now result }
-{
-    match error_behind(alloc, &bytes[..valid], "the file is no UTF-8") {
-        Ok(finding) => Unread::NotUtf8(finding),
-        Err(error) => Unread::NoMemory(error),
-    }
-}
-
-/// That the tables and arrays of a text are too deep in one another behind so many bytes.
-fn deep(alloc: Global, text: &str, before: usize) -> Unread
-    requires { before ≤ length text.now }
-    ensures { too_deep text.now ≡ Some before → IsUnread text.now result }
-{
-    match error_behind(
-        alloc,
-        &text.as_bytes()[..before],
-        "tables and arrays are more than 32 deep in one another",
-    ) {
-        Ok(finding) => Unread::TooDeep(finding),
-        Err(error) => Unread::NoMemory(error),
-    }
-}
-
 /// That a text is no TOML, and why.
-fn no_toml(alloc: Global, text: &str, error: &toml::de::Error) -> Unread
+fn no_toml(alloc: Global, text: &str, error: &toml::de::Error) -> Result<Finding, AllocError>
     requires { IsText text.now }
-    ensures { parse_document text.now ≡ None → IsUnread text.now result }
+    ensures { parse_document text.now ≡ None
+        → IfOk result (λ found. IsNoToml text.now (finding_view found)) }
 {
     let bytes = text.as_bytes();
     let start = start_of(error, bytes);
-    let words = match syntax_words(alloc, error, text.get(start..).unwrap_or("")) {
-        Ok(words) => words,
-        Err(error) => return Unread::NoMemory(error),
-    };
-    match error_behind(alloc, &bytes[..start], words.as_str()) {
-        Ok(finding) => Unread::NotToml(finding),
-        Err(error) => Unread::NoMemory(error),
-    }
+    let words = syntax_words(alloc, error, text.get(start..).unwrap_or(""))?;
+    error_behind(alloc, &bytes[..start], words.as_str())
 }
 
 /// Why a text is no TOML: the words of `toml`, with the key that is written twice, or with more of

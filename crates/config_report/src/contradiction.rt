@@ -1,18 +1,16 @@
 //! Settings that contradict each other, and what is said of them.
-ghost use Rattle.std.specs.Prelude.{◌≡◌, ◌++◌, ◌∷◌, [], Some, IfOk, IsSome};
+ghost use Rattle.std.specs.Prelude.{◌≡◌, Some, IfOk, IsSome};
 ghost use Rattle.config_report.specs.Contradictions.{beside_text, contradiction_note};
 ghost use Rattle.config_report.specs.Contradictions.{contradiction_view, effect_text, is_later};
 ghost use Rattle.config_report.specs.Contradictions.{other_view, side_note, side_view};
 ghost use Rattle.config_report.specs.Notes.{finding_view};
-ghost use Rattle.iox2_config_file.specs.Settings.{table_path};
 ghost use Rattle.toml.specs.Parse.{parse_document};
-ghost use Rattle.toml_positions.specs.Written.{path_view};
 
 use crate::finding::{Finding, Severity, finding_of, key_path, position_of};
 use iox2_config_file::{Section, SettingValue};
 use std::alloc::{AllocError, Global};
 use std::fmt;
-use toml_positions::{KeyPath, Position};
+use toml_positions::Position;
 
 /// What settings that contradict each other lead to.
 #[derive(Clone, Copy)]
@@ -56,15 +54,6 @@ pub(crate) struct Side<'a> {
     pub(crate) section: Section,
     pub(crate) key: &'static str,
     pub(crate) value: SettingValue<'a>,
-}
-
-impl<'a> Side<'a> {
-    /// The path of its key.
-    fn path(self) -> KeyPath<'a>
-        ensures { path_view result ≡ table_path self.entry.section ++ self.entry.key.now ∷ [] }
-    {
-        key_path(self.section, self.key)
-    }
 }
 
 /// A setting that contradicts itself or another one, and what that leads to.
@@ -131,11 +120,11 @@ pub(crate) fn contradiction_finding(
     ensures { IfOk result (λ finding. IsSome (parse_document text.now)
         → finding_view finding ≡ contradiction_note text.now (contradiction_view found.now)) }
 {
-    let first = position_of(alloc, text, found.one.path())?;
+    let first = position_of(alloc, text, key_path(found.one.section, found.one.key))?;
     let Some(other) = found.other else {
         return side_finding(alloc, first, found);
     };
-    let second = position_of(alloc, text, other.path())?;
+    let second = position_of(alloc, text, key_path(other.section, other.key))?;
     if is_later(first, second) {
         let turned = Contradiction {
             one: other,

@@ -1,7 +1,7 @@
 //! Which settings of a configuration contradict each other.
 ghost use Rattle.std.specs.Prelude.{◌≡◌, ◌++◌, IfOk, OnOk, flat_map, map};
 ghost use Rattle.std.specs.Prelude.{option_copied};
-ghost use Rattle.iox2_config_file.specs.Values.{number, text};
+ghost use Rattle.iox2_config_file.specs.Write.{value_view};
 ghost use Rattle.config_report.specs.Contradictions.{candidate_view, contradiction_view};
 ghost use Rattle.config_report.specs.Contradictions.{contradictions_in, default_contradictions};
 ghost use Rattle.config_report.specs.Contradictions.{event_contradictions, global_contradictions};
@@ -34,25 +34,14 @@ struct Candidate<'a> {
     found: Contradiction<'a>,
 }
 
-/// A setting that is a number.
-fn number_of<'a>(section: Section, key: &'static str, value: usize) -> Side<'a>
-    ensures { side_view result ≡ (section, key.now, number value) }
+/// A setting of this key and this value.
+fn side<'a>(section: Section, key: &'static str, value: SettingValue<'a>) -> Side<'a>
+    ensures { side_view result ≡ (section, key.now, value_view value.entry) }
 {
     Side {
         section,
         key,
-        value: SettingValue::Number(value),
-    }
-}
-
-/// A setting that is a text.
-fn text_of<'a>(section: Section, key: &'static str, value: &'a str) -> Side<'a>
-    ensures { side_view result ≡ (section, key.now, text value.now) }
-{
-    Side {
-        section,
-        key,
-        value: SettingValue::Text(value),
+        value,
     }
 }
 
@@ -60,7 +49,8 @@ fn text_of<'a>(section: Section, key: &'static str, value: &'a str) -> Side<'a>
 fn suffix_of(found: Suffix<'_>) -> Side<'_>
     ensures { side_view result ≡ suffix_side (suffix_view found.entry) }
 {
-    text_of(Section::Service, found.key, found.suffix.as_str())
+    let suffix = SettingValue::Text(found.suffix.as_str());
+    side(Section::Service, found.key, suffix)
 }
 
 /// Adds a contradiction where this holds.
@@ -97,8 +87,8 @@ fn add_root<'a>(
         ≡ map contradiction_view list.old.items ++ root_contradictions global.now) }
 {
     let path = global.root_path().as_str();
-    let side = text_of(Section::Global, "root-path", path);
-    add_where(list, is_relative(path), side, None, Effect::ManyRoots)
+    let root = side(Section::Global, "root-path", SettingValue::Text(path));
+    add_where(list, is_relative(path), root, None, Effect::ManyRoots)
 }
 
 /// The suffixes of services' files.
@@ -174,7 +164,8 @@ fn add_names<'a>(
         ++ flat_map (long_name prefix.now) (map suffix_view kinds.now)) }
 {
     for kind in kinds {
-        let beside = Some(text_of(Section::Global, "prefix", prefix.as_str()));
+        let text = SettingValue::Text(prefix.as_str());
+        let beside = Some(side(Section::Global, "prefix", text));
         let holds = is_long(prefix, kind.suffix);
         add_where(list, holds, suffix_of(*kind), beside, Effect::LongNames)?;
     }
@@ -193,14 +184,14 @@ fn has_small_buffer(settings: &PublishSubscribe) -> bool
 fn history<'a>(settings: &PublishSubscribe) -> Candidate<'a>
     ensures { candidate_view result ≡ history_contradictions settings.now }
 {
-    let history = settings.publisher_history_size;
-    let buffer = settings.subscriber_max_buffer_size;
+    let history = SettingValue::Number(settings.publisher_history_size);
+    let buffer = SettingValue::Number(settings.subscriber_max_buffer_size);
     let table = Section::PublishSubscribe;
     Candidate {
         holds: has_small_buffer(settings),
         found: Contradiction {
-            one: number_of(table, "publisher-history-size", history),
-            other: Some(number_of(table, "subscriber-max-buffer-size", buffer)),
+            one: side(table, "publisher-history-size", history),
+            other: Some(side(table, "subscriber-max-buffer-size", buffer)),
             effect: Effect::SmallBuffer,
         },
     }
@@ -211,11 +202,12 @@ fn event<'a>(greatest: usize, key: &'static str, event: Option<usize>) -> Candid
     ensures { candidate_view result ≡ unsent_event greatest (key.now, event) }
 {
     let number = event.unwrap_or(0);
+    let limit = SettingValue::Number(greatest);
     Candidate {
         holds: greatest < number,
         found: Contradiction {
-            one: number_of(Section::Event, key, number),
-            other: Some(number_of(Section::Event, "event-id-max-value", greatest)),
+            one: side(Section::Event, key, SettingValue::Number(number)),
+            other: Some(side(Section::Event, "event-id-max-value", limit)),
             effect: Effect::UnsentEvent,
         },
     }

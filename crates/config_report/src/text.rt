@@ -1,7 +1,7 @@
 //! All settings, and the directories, the files and the chunks that follow, as text.
 ghost use Rattle.std.specs.Prelude.{◌≡◌, ◌<◌, ◌++◌, ◌↔◌, ℕ, List, IsTrue, OnOk, Some, string_bytes};
 ghost use Rattle.std.specs.Prelude.{length, map, flat_map, option_map, slice_get};
-ghost use Rattle.iox2_config_file.specs.Read.{row_view, rows_in, sections};
+ghost use Rattle.iox2_config_file.specs.Read.{row_view, rows_in};
 ghost use Rattle.iox2_config_file.specs.Write.{value_view};
 ghost use Rattle.config_report.specs.Text.{is_same, IsReportOver, setting_line, table_lines};
 ghost use Rattle.config_report.specs.Text.{value_pair, value_pairs};
@@ -38,18 +38,22 @@ pub(crate) fn write_text(
         out,
         "settings, with ! where they differ from the defaults\n"
     )?;
-    write_tables(out, config, default)?;
+    write_tables(out, &SECTIONS, config, default)?;
     write_directories(out, config)?;
     write_files(out, config)?;
     write_needs(out, config)
 }
 
-/// Appends the settings of all tables.
-fn write_tables(out: &mut String, config: &Config, default: &Config) -> Result<(), AllocError>
-    ensures { OnOk result (string_bytes out.new
-        ≡ string_bytes out.old ++ flat_map (table_lines default.now config.now) sections) }
+/// Appends the settings of some tables.
+fn write_tables(
+    out: &mut String,
+    sections: &[Section],
+    config: &Config,
+    default: &Config,
+) -> Result<(), AllocError>
+    ensures { OnOk result (string_bytes out.new ≡ string_bytes out.old
+        ++ flat_map (table_lines default.now config.now) sections.now) }
 {
-    let sections = &SECTIONS;
     for section in sections {
         write_table(out, *section, config, default)?;
     }
@@ -129,7 +133,7 @@ impl fmt::Display for Line<'_> {
 }
 
 /// Whether two settings have one value.
-#[tactic(auto, using(crate::proofs::Same::same_is))]
+#[tactic(auto, using(crate::proofs::Pairs::same_is))]
 pub fn is_same(value: SettingValue<'_>, usual: SettingValue<'_>) -> bool
     ensures test { result ≡ is_same (value_view value.entry) (value_view usual.entry) }
     ensures equal { IsTrue result ↔ (value_view value.entry ≡ value_view usual.entry) }
@@ -155,25 +159,22 @@ fn write_directories(out: &mut String, config: &Config) -> Result<(), AllocError
     ensures { OnOk result
         (string_bytes out.new ≡ string_bytes out.old ++ directories_text config.now) }
 {
+    let services = config.global.service_dir();
+    let nodes = config.global.node_dir();
     write!(out, "\ndirectories\n")?;
     write_named(out, "root", config.global.root_path().as_str())?;
-    write_directory(out, "services", config.global.service_dir())?;
-    write_directory(out, "nodes", config.global.node_dir())
+    write_named(out, "services", directory_text(&services))?;
+    write_named(out, "nodes", directory_text(&nodes))
 }
 
-/// Appends a directory.
-fn write_directory(
-    out: &mut String,
-    name: &str,
-    directory: Result<Path, SemanticStringError>,
-) -> Result<(), AllocError>
-    ensures { OnOk result ((root entry : List ℕ) → MakesJoined root entry directory
-        → string_bytes out.new
-        ≡ string_bytes out.old ++ named_line name.now (directory_text root entry)) }
+/// The path of a directory, or why there is none.
+fn directory_text(directory: &Result<Path, SemanticStringError>) -> &str
+    ensures { (root entry : List ℕ) → MakesJoined root entry directory.now
+        → result.now ≡ directory_text root entry }
 {
     match directory {
-        Ok(path) => write_named(out, name, path.as_str()),
-        Err(_) => write_named(out, name, "none: its path would have more than 255 bytes"),
+        Ok(path) => path.as_str(),
+        Err(_) => "none: its path would have more than 255 bytes",
     }
 }
 

@@ -1,9 +1,10 @@
--- The settings of a table as they are written, and as they are read from that.
-use Rattle.std.proofs.Common.{◌≡◌, ℕ, ◌/◌, ◌%◌, ◌<◌, ◌≤◌, ◌^◌, pos, Bool, true, false, not, ◌&&◌, ◌||◌, List, [], ◌∷◌, ◌++◌, length, codes, map, Option, Some, None, option_map, Ok, refl, sym, ap, arith, append_assoc, subst, rules}
-use Rattle.std.specs.Prelude.{nat_lt, ⊤}
-use Rattle.std.specs.List.{list_all, filter_map}
+-- The settings of a table as they are written, and as they are read from that: the parts of a value,
+-- what makers of texts answer, and the lines of each setting.
+use Rattle.std.proofs.Common.{◌≡◌, ℕ, ◌/◌, ◌%◌, ◌<◌, ◌≤◌, ◌^◌, pos, Bool, true, false, not, ◌&&◌, ◌||◌, List, [], ◌∷◌, ◌++◌, length, codes, map, Option, Some, None, option_map, Ok, refl, sym, ap, arith, append_assoc, subst, rules, Result}
+use Rattle.std.specs.Prelude.{nat_lt, ⊤, nat_le, Contains}
+use Rattle.std.specs.List.{list_all, filter_map, list_any}
 use Rattle.std.proofs.Math.Nat.{mod-lt}
-use Rattle.std.proofs.lemmas.Bool.Decides.{nat_tests}
+use Rattle.std.proofs.lemmas.Bool.Decides.{nat_tests, Decides-and, Decides-by_and, Decides-by_or, Decides-eqb, Decides-like, Decides-not}
 use Rattle.std.proofs.lemmas.Nat.{div-add-mod'}
 use Rattle.std.proofs.lemmas.List.Folds.{list_all-append}
 use Rattle.toml_parser.specs.Lexical.{is_bare, is_non_eol}
@@ -11,9 +12,9 @@ use Rattle.toml_writer.specs.Text.{key_text, string_text, encoding_of, escaped, 
 use Rattle.toml.specs.Data.{Data, string, integer, boolean, table, no_members, member, depth, has_valid_dates}
 use Rattle.toml.specs.Tables.{Expression, Nodes, value, insert, key_value}
 use Rattle.toml.specs.Text.{IsValueText}
-use Rattle.iox2_texts.specs.Text.{IsTextUpTo}
-use Rattle.iox2_texts.specs.Name.{IsAllowed}
-use Rattle.iox2_texts.specs.Path.{IsPlain}
+use Rattle.iox2_texts.specs.Text.{IsTextUpTo, IsText, IsTextByte}
+use Rattle.iox2_texts.specs.Name.{IsAllowed, MakesLegal}
+use Rattle.iox2_texts.specs.Path.{IsPlain, is_slash}
 use Rattle.iox2_config.specs.declared.config.choices.BackpressureStrategy.{BackpressureStrategy}
 use Rattle.iox2_config.specs.declared.config.choices.AllocationStrategy.{AllocationStrategy}
 use Rattle.iox2_config.specs.declared.config.choices.BackpressureStrategy.TheVariants.{RetryUntilDelivered, DiscardData}
@@ -24,11 +25,50 @@ use Rattle.iox2_config_file.specs.declared.section.Row.{Row}
 use Rattle.iox2_config_file.specs.Read.{row_view}
 use Rattle.iox2_config_file.specs.Answers.{IsLegal, AreLegal}
 use Rattle.iox2_config_file.specs.Settings.{is_line, are_lines, Setting}
-use Rattle.iox2_config_file.specs.Values.{SettingValue, number, flag, text, backpressure, allocation, duration, absent, settings, value_in, text_in, is_path, is_file_name}
+use Rattle.iox2_config_file.specs.Values.{SettingValue, number, flag, text, backpressure, allocation, duration, absent, settings, value_in, text_in, is_path, is_file_name, member_count}
 use Rattle.iox2_config_file.specs.Write.{value_text, value_fits, value_is_set, assignment, entry_text, entries_text}
-use Rattle.iox2_config_file.proofs.Values.{any_path, plain, made_text}
 use Rattle.iox2_config_file.proofs.Rowed.{no_entries}
 use Rattle.iox2_config_file.proofs.Reading.{Block, block_append, block_none, block_newline, block_comment, block_pair}
+use Rattle.toml.specs.View.{members_view}
+use Rattle.toml.proofs.Views.{Entry}
+use Rattle.std.specs.Bool.{Decides}
+use Rattle.std.specs.Result.{result_map_both}
+use Rattle.std.proofs.lemmas.List.Elements.{Decides-contains}
+use Rattle.std.proofs.lemmas.Slice.Eq.{bytes_eq-Decides}
+use Rattle.iox2_texts.specs.declared.bounded.SemanticStringError.{SemanticStringError}
+
+pub count_is : (es : List Entry) → length es ≡ member_count (members_view es)
+count_is [] = refl
+count_is (e ∷ es) = omega (arith, count_is es)
+
+-- a byte that a text may hold
+abbrev byte_test : ℕ → Bool
+byte_test b = nat_le 1 b && nat_le b 127
+
+is_text : (s : List ℕ) → Decides (list_all byte_test s) (IsText s)
+is_text s =
+    Decides-by_and byte_test IsTextByte (list_all byte_test) (λ b. grind (arith, nat_tests)) refl
+    (λ _ _. refl) s
+
+-- a maker's answer is that of the function
+pub made_text : (Allows : List ℕ → Type 0) (allows : List ℕ → Bool) (s : List ℕ)
+    (r : Result (List ℕ) SemanticStringError)
+    → Decides (allows s) (Allows s) → MakesLegal (IsAllowed Allows 255) 255 s r
+    → result_map_both text (λ e. e) r ≡ text_in allows s
+made_text Allows allows s r d h = grind (arith, Decides-and, is_text, nat_tests)
+
+pub any_path : (s : List ℕ) → Decides (is_path s) ⊤
+any_path s = search rules
+
+has_slash : (s : List ℕ) → Decides (list_any is_slash s) (Contains s 47)
+has_slash s =
+    Decides-contains s 47 (list_any is_slash s)
+    (Decides-by_or is_slash (λ b. b ≡ 47) (list_any is_slash) (λ b. Decides-eqb b 47) refl
+    (λ _ _. refl) s)
+
+pub plain : (s : List ℕ) → Decides (is_file_name s) (IsPlain s)
+plain s =
+    grind (arith, Decides-like, Decides-and, nat_tests, Decides-not, has_slash, bytes_eq-Decides)
 
 -- a key, and what is written at it, if anything is
 abbrev pub Pair : Type 0

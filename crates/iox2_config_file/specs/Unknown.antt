@@ -34,27 +34,26 @@ unfoldable pub spelling : List ℕ → List ℕ
 spelling [] = []
 spelling (c ∷ cs) = if is_dash c then spelling cs else to_ascii_lowercase c ∷ spelling cs
 
--- the first of the rows that is the same but for `-`, `_` and the case of letters
-abbrev pub respelled : List ℕ → List (List ℕ × Kind) → Option (List ℕ)
-respelled key rows =
-    option_map (λ row. row.0) (find (λ row. bytes_eq (spelling key) (spelling row.0)) rows)
-
 -- a text is the path of a key: a prefix, and then the key
 abbrev pub is_path : List ℕ → List ℕ → List ℕ → Bool
 is_path text prefix key =
     bytes_eq (take (length prefix) text) prefix && bytes_eq (drop (length prefix) text) key
 
--- what is looked for among the keys of all tables: this key, or one whose path is one of two texts
+-- what is looked for among known keys: this key, or one that is the same but for `-`, `_` and the
+-- case of letters, or one whose path is one of two texts
 pub data Target : Type 0 where
   same : List ℕ → Target
+  respelled : List ℕ → Target
   path : List ℕ → List ℕ → Target
 
 abbrev pub wanted_view : Wanted → Target
 wanted_view (wanted.Key key) = same key.now
+wanted_view (wanted.Respelled key) = respelled key.now
 wanted_view (wanted.Path text other) = path text.now other.now
 
 abbrev pub is_wanted : Target → Section × List ℕ → Bool
 is_wanted (same key) (s, known) = bytes_eq key known
+is_wanted (respelled key) (s, known) = bytes_eq (spelling key) (spelling known)
 is_wanted (path text other) (s, known) =
     is_path text (prefix_of s) known || is_path other (prefix_of s) known
 
@@ -78,49 +77,47 @@ abbrev pub distance_below : List ℕ → List ℕ → ℕ → Option ℕ
 distance_below a b limit =
     if nat_lt (edit_distance a b) limit then Some (edit_distance a b) else None
 
--- the first of the rows whose distance is the least of all and below a limit, or what was found
-abbrev pub nearest_below : List ℕ → ℕ → Option (List ℕ) → List (List ℕ × Kind) → Option (List ℕ)
+-- the first of some keys whose distance is the least of all and below a limit, or what was found
+abbrev pub nearest_below : List ℕ → ℕ → Option (Section × List ℕ) → List (Section × List ℕ)
+    → Option (Section × List ℕ)
 nearest_below key limit found [] = found
-nearest_below key limit found (row ∷ rows) =
-    if nat_lt (edit_distance key row.0) limit
-    then nearest_below key (edit_distance key row.0) (Some row.0) rows
-    else nearest_below key limit found rows
+nearest_below key limit found ((s, known) ∷ keys) =
+    if nat_lt (edit_distance key known) limit
+    then nearest_below key (edit_distance key known) (Some (s, known)) keys
+    else nearest_below key limit found keys
 
 -- the greatest distance at which a key is proposed: 2, or a third of the key's bytes
 abbrev pub reach : List ℕ → ℕ
 reach key = max (length key / 3) 2
 
--- the nearest of the rows, of a key of at most 64 bytes
-unfoldable pub nearest : List ℕ → List (List ℕ × Kind) → Option (List ℕ)
-nearest key rows =
-    if nat_le (length key) 64 then nearest_below key (reach key + 1) None rows else None
+-- the nearest of some keys, to a key of at most 64 bytes
+unfoldable pub nearest : List ℕ → List (Section × List ℕ) → Option (Section × List ℕ)
+nearest key keys =
+    if nat_le (length key) 64 then nearest_below key (reach key + 1) None keys else None
 
--- a proposal of a table's key, and of a key of any table
-abbrev pub of_table : Section → Likeness → List ℕ → Proposed
-of_table s likeness key = (s, key, likeness)
-
-abbrev pub of_any : Likeness → Section × List ℕ → Proposed
-of_any likeness (s, key) = (s, key, likeness)
+-- a proposal of a known key
+abbrev pub proposal_of : Likeness → Section × List ℕ → Proposed
+proposal_of likeness (s, key) = (s, key, likeness)
 
 -- the same key in another table
 abbrev pub elsewhere : Config → List ℕ → Option Proposed
-elsewhere c key = option_map (of_any OtherTable) (wanted_in c (same key))
+elsewhere c key = option_map (proposal_of OtherTable) (wanted_in c (same key))
 
 -- of a key with a dot, the known key whose path it is: from the root on, or from its table on
 abbrev pub unquoted : Config → Section → List ℕ → Option Proposed
 unquoted c s key =
     if list_any (λ b. b == 46) key
-    then option_map (of_any Quoted) (wanted_in c (path key (prefix_of s ++ key)))
+    then option_map (proposal_of Quoted) (wanted_in c (path key (prefix_of s ++ key)))
     else None
 
 -- what was probably meant: the same key but for `-`, `_` and the case of letters; or else the same
 -- key in another table; or else the key whose path stands in quotes; or else the nearest key
 unfoldable pub proposed : Config → Section → List ℕ → Option Proposed
 proposed c s key =
-    option_or (option_map (of_table s Spelling) (respelled key (rows_in s c)))
+    let keys = keys_of s (rows_in s c) in
+    option_or (option_map (proposal_of Spelling) (find (is_wanted (respelled key)) keys))
     (option_or (elsewhere c key)
-    (option_or (unquoted c s key)
-    (option_map (of_table s Near) (nearest key (rows_in s c)))))
+    (option_or (unquoted c s key) (option_map (proposal_of Near) (nearest key keys))))
 
 -- a key is one of the rows
 abbrev pub is_known : List ℕ → List (List ℕ × Kind) → Bool

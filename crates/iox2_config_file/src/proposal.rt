@@ -1,11 +1,10 @@
 //! What was probably meant by a key that no setting has.
 ghost use Rattle.std.specs.Prelude.{◌≡◌, ◌∷◌, ◌<◌, [], length, bytes_eq, MatchOption, map};
 ghost use Rattle.std.specs.Prelude.{option_map, ◌==◌, IfOk};
-ghost use Rattle.iox2_config_file.specs.Unknown.{is_dash, spelling, respelled, is_path, is_wanted};
+ghost use Rattle.iox2_config_file.specs.Unknown.{is_dash, spelling, is_path, is_wanted};
 ghost use Rattle.iox2_config_file.specs.Unknown.{keys_of, wanted_in, wanted_view};
-ghost use Rattle.iox2_config_file.specs.Unknown.{distance_below, nearest, of_any};
-ghost use Rattle.iox2_config_file.specs.Unknown.{of_table, nearest_below, proposal_view, proposed};
-ghost use Rattle.iox2_config_file.specs.Unknown.{unquoted};
+ghost use Rattle.iox2_config_file.specs.Unknown.{distance_below, nearest, nearest_below};
+ghost use Rattle.iox2_config_file.specs.Unknown.{proposal_of, proposal_view, proposed, unquoted};
 ghost use Rattle.iox2_config_file.specs.Read.{row_view};
 ghost use Rattle.std.specs.List.{find, list_any};
 ghost use Rattle.iox2_config.specs.declared.config.Config.{Config};
@@ -61,23 +60,13 @@ fn is_respelled(key: &[u8], known: &[u8]) -> bool
     }
 }
 
-/// The first of the rows that is the same but for `-`, `_` and the case of letters.
-pub(crate) fn respelled(key: &str, rows: &[Row]) -> Option<&'static str>
-    ensures { option_map (λ t. t.now) result ≡ respelled key.now (map row_view rows.now) }
-{
-    for row in rows {
-        if is_respelled(key.as_bytes(), row.key.as_bytes()) {
-            return Some(row.key);
-        }
-    }
-    None
-}
-
 /// Which key is looked for.
 #[derive(Clone, Copy)]
 pub(crate) enum Wanted<'a> {
     /// This key.
     Key(&'a str),
+    /// The key that is the same but for `-`, `_` and the case of letters.
+    Respelled(&'a str),
     /// The key whose path is one of these two texts.
     Path(&'a str, &'a str),
 }
@@ -98,6 +87,7 @@ fn is_wanted(wanted: Wanted<'_>, section: Section, key: &str) -> bool
 {
     match wanted {
         Wanted::Key(name) => name == key,
+        Wanted::Respelled(name) => is_respelled(name.as_bytes(), key.as_bytes()),
         Wanted::Path(text, other) => {
             is_path_of(text, section, key) || is_path_of(other, section, key)
         }
@@ -187,18 +177,19 @@ fn distance_below(
 /// The first of the rows whose distance is the least, below a limit.
 fn nearest_below(
     alloc: Global,
+    section: Section,
     key: &str,
     below: usize,
     rows: &[Row],
-) -> Result<Option<&'static str>, AllocError>
-    ensures { IfOk result (λ found. option_map (λ t. t.now) found
-        ≡ nearest_below key.now below None (map row_view rows.now)) }
+) -> Result<Option<(Section, &'static str)>, AllocError>
+    ensures { IfOk result (λ found. option_map (λ p. (p.0, p.1.now)) found
+        ≡ nearest_below key.now below None (keys_of section (map row_view rows.now))) }
 {
     let mut found = None;
     let mut limit = below;
     for row in rows {
         if let Some(n) = distance_below(alloc, key, row.key, limit)? {
-            found = Some(row.key);
+            found = Some((section, row.key));
             limit = n;
         }
     }
@@ -208,36 +199,26 @@ fn nearest_below(
 /// The nearest of the rows: at most two characters have to be put in, taken out or changed, or a
 /// third of the key's bytes.
 #[tactic(auto, unfolding(crate::specs::Unknown::nearest))]
-fn nearest(alloc: Global, key: &str, rows: &[Row]) -> Result<Option<&'static str>, AllocError>
-    ensures { IfOk result (λ found.
-        option_map (λ t. t.now) found ≡ nearest key.now (map row_view rows.now)) }
+fn nearest(
+    alloc: Global,
+    section: Section,
+    key: &str,
+    rows: &[Row],
+) -> Result<Option<(Section, &'static str)>, AllocError>
+    ensures { IfOk result (λ found. option_map (λ p. (p.0, p.1.now)) found
+        ≡ nearest key.now (keys_of section (map row_view rows.now))) }
 {
     if key.len() <= LONGEST_NEAR {
-        nearest_below(alloc, key, (key.len() / 3).max(2) + 1, rows)
+        nearest_below(alloc, section, key, (key.len() / 3).max(2) + 1, rows)
     } else {
         Ok(None)
     }
 }
 
-/// A proposal of a key of the same table.
-fn of_table(section: Section, likeness: Likeness, key: Option<&'static str>) -> Option<Proposal>
+/// A proposal of a known key.
+fn proposal_of(likeness: Likeness, found: Option<(Section, &'static str)>) -> Option<Proposal>
     ensures { option_map proposal_view result
-        ≡ option_map (of_table section likeness) (option_map (λ t. t.now) key.entry) }
-{
-    match key {
-        Some(key) => Some(Proposal {
-            section,
-            key,
-            likeness,
-        }),
-        None => None,
-    }
-}
-
-/// A proposal of a key of any table.
-fn of_any(likeness: Likeness, found: Option<(Section, &'static str)>) -> Option<Proposal>
-    ensures { option_map proposal_view result
-        ≡ option_map (of_any likeness) (option_map (λ p. (p.0, p.1.now)) found.entry) }
+        ≡ option_map (proposal_of likeness) (option_map (λ p. (p.0, p.1.now)) found.entry) }
 {
     match found {
         Some((section, key)) => Some(Proposal {
@@ -268,7 +249,7 @@ fn unquoted(alloc: Global, section: Section, key: &str) -> Result<Option<Proposa
     path.push_str(section.prefix())?;
     path.push_str(key)?;
     let found = find_wanted(Wanted::Path(key, path.as_str()));
-    Ok(of_any(Likeness::Quoted, found))
+    Ok(proposal_of(Likeness::Quoted, found))
 }
 
 /// What was probably meant by a key that a table does not have: the same key but for `-`, `_` and
@@ -284,14 +265,15 @@ pub(crate) fn propose(
         → option_map proposal_view found ≡ proposed c section key.now) }
 {
     let rows = rows(section);
-    if let Some(found) = of_table(section, Likeness::Spelling, respelled(key, rows)) {
+    let respelled = find_among(Wanted::Respelled(key), section, rows);
+    if let Some(found) = proposal_of(Likeness::Spelling, respelled) {
         return Ok(Some(found));
     }
-    if let Some(found) = of_any(Likeness::OtherTable, find_wanted(Wanted::Key(key))) {
+    if let Some(found) = proposal_of(Likeness::OtherTable, find_wanted(Wanted::Key(key))) {
         return Ok(Some(found));
     }
     if let Some(found) = unquoted(alloc, section, key)? {
         return Ok(Some(found));
     }
-    Ok(of_table(section, Likeness::Near, nearest(alloc, key, rows)?))
+    Ok(proposal_of(Likeness::Near, nearest(alloc, section, key, rows)?))
 }

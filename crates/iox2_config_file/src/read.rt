@@ -108,13 +108,8 @@ fn parse(alloc: Global, text: &str) -> Result<Table, ConfigFileError>
 {
     match toml::table_from_str(alloc, text) {
         Ok(file) => Ok(file),
-        Err(e) => {
-            if e.is_memory() {
-                Err(ConfigFileError::NoMemory(AllocError))
-            } else {
-                Err(ConfigFileError::Syntax(e))
-            }
-        }
+        Err(e) if e.is_memory() => Err(ConfigFileError::NoMemory(AllocError)),
+        Err(e) => Err(ConfigFileError::Syntax(e)),
     }
 }
 

@@ -341,7 +341,7 @@ pub(crate) fn get<'a>(table: &'a Table, key: &str) -> Option<&'a Value>
 }
 
 /// How many keys a table has.
-#[tactic(auto, using(crate::proofs::Values::count_is))]
+#[tactic(auto, using(crate::proofs::Written::count_is))]
 pub(crate) fn member_count(table: &Table) -> usize
     ensures { result ≡ member_count (table_view table.now) }
 {

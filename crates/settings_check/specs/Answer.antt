@@ -58,14 +58,18 @@ omitted_in parsed seen = record {
   files = has_unread seen.unread;
 }
 
+-- these texts are written, to the output and to the errors, and this is the status
+pub record IsAnswer (text reported : List ℕ) (end : Status) (answer : Answer) : Type 0 where
+  pub output : string_bytes answer.output ≡ text
+  pub errors : string_bytes answer.errors ≡ reported
+  pub status : answer.status ≡ end
+
 -- what was found is reported, and what is left out: to the output, and the files that cannot be
 -- read to the errors
-pub record IsChecked (way : Style) (strict : Bool) (omitted : Omitted) (seen : Seen)
-    (answer : Answer) : Type 0 where
-  pub output : string_bytes answer.output
-      ≡ lines_in way seen.said ++ end_text way omitted seen.said
-  pub errors : string_bytes answer.errors ≡ unread_text seen
-  pub status : answer.status ≡ status_of strict seen
+abbrev pub IsChecked : Style → Bool → Omitted → Seen → Answer → Type 0
+IsChecked way strict omitted seen =
+    IsAnswer (lines_in way seen.said ++ end_text way omitted seen.said) (unread_text seen)
+    (status_of strict seen)
 
 -- all settings of a file and what follows from them, or nothing where there is none
 abbrev pub IsTextOf : Option ValidFile → List ℕ → Type 0
@@ -107,10 +111,8 @@ AnswersFiles Gives coloured input request answer =
     × AnswersTask request.task (style_of request.format coloured) request.strict seen answer
 
 -- this text is answered
-pub record IsTextAnswer (text : List ℕ) (answer : Answer) : Type 0 where
-  pub output : string_bytes answer.output ≡ text
-  pub errors : string_bytes answer.errors ≡ []
-  pub status : answer.status ≡ Good
+abbrev pub IsTextAnswer : List ℕ → Answer → Type 0
+IsTextAnswer text = IsAnswer text [] Good
 
 -- the file of the default settings, and the schema
 abbrev pub IsDefaultAnswer : Answer → Type 0
@@ -131,10 +133,8 @@ AnswersRequest other Gives coloured input request answer =
     AnswersFiles Gives coloured input request answer
 
 -- bad arguments are reported
-pub record IsRefusedAnswer (answer : Answer) : Type 0 where
-  pub output : string_bytes answer.output ≡ []
-  pub errors : string_bytes answer.errors ≡ BAD_ARGUMENTS.now
-  pub status : answer.status ≡ Unusable
+abbrev pub IsRefusedAnswer : Answer → Type 0
+IsRefusedAnswer = IsAnswer [] BAD_ARGUMENTS.now Unusable
 
 -- what is answered to arguments
 abbrev pub Answers : (List ℕ → Result (List ℕ) FileError → Type 0) → Bool → List ℕ

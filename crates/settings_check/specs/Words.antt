@@ -1,5 +1,5 @@
 -- What the arguments of the program request.
-use Rattle.std.specs.Prelude.{◌≡◌, ◌≢◌, ℕ, Bool, true, false, not, ◌&&◌, nat_eq, nat_lt, List, [], ◌∷◌, ◌++◌, codes, map, drop, length, is_some, if◌then◌else◌, Option, Some, None, option_map, option_and_then, unwrap_or, Result, Ok, Err, String, string_bytes}
+use Rattle.std.specs.Prelude.{◌≡◌, ◌≢◌, ℕ, Bool, true, false, not, ◌&&◌, nat_eq, nat_lt, List, [], ◌∷◌, ◌++◌, codes, map, drop, length, is_some, if◌then◌else◌, Option, Some, None, option_and_then, unwrap_or, Result, Ok, Err, String, string_bytes}
 use Rattle.std.specs.Str.{bytes_eq}
 use Rattle.std.specs.IoError.{error_kind}
 use Rattle.std.specs.Vec.Iter.{into_iter_items}
@@ -8,79 +8,67 @@ use Rattle.std.specs.declared.vec.IntoIter.{IntoIter}
 use Rattle.std.specs.declared.io.Error.{Error}
 use Rattle.std.specs.declared.io.ErrorKind.TheVariants.{OutOfMemory}
 use Rattle.settings_check.specs.declared.arguments.Chosen.{Chosen}
+use Rattle.settings_check.specs.declared.arguments.Format.{Format}
 use Rattle.settings_check.specs.declared.arguments.Format.TheVariants.{Text, Json}
 use Rattle.settings_check.specs.declared.arguments.Request.{Request}
 use Rattle.settings_check.specs.declared.arguments.RequestError.{RequestError}
 use Rattle.settings_check.specs.declared.arguments.RequestError.TheVariants.{BadArguments, NoMemory}
 use Rattle.settings_check.specs.declared.arguments.Task.{Task}
 use Rattle.settings_check.specs.declared.arguments.Task.TheVariants as task
-use Rattle.settings_check.specs.declared.arguments.Word.{Word}
-use Rattle.settings_check.specs.declared.arguments.Word.TheVariants as word
 
 -- the word is the name of a file: it begins with no dash, or is a dash alone
 abbrev pub is_file_word : List ℕ → Bool
 is_file_word (a ∷ b ∷ rest) = not (nat_eq a 45)
 is_file_word other = true
 
--- what a word is that names no file
-abbrev pub word_of : List ℕ → Word
-word_of w =
-    if bytes_eq w (codes "--strict") then word.Strict
-    else (if bytes_eq w (codes "--format") then word.Format
-    else (if bytes_eq w (codes "--format=text") then word.FormatOf Text
-    else (if bytes_eq w (codes "--format=json") then word.FormatOf Json
-    else (if bytes_eq w (codes "--show") then word.Task task.Show
-    else (if bytes_eq w (codes "--compare") then word.Task task.Compare
-    else (if bytes_eq w (codes "--default") then word.Task task.DefaultFile
-    else (if bytes_eq w (codes "--schema") then word.Task task.Schema
-    else (if bytes_eq w (codes "-h") then word.Task task.Help
-    else (if bytes_eq w (codes "--help") then word.Task task.Help
-    else (if bytes_eq w (codes "--version") then word.Task task.Version
-    else word.Unknown))))))))))
-
 -- no option is chosen
 abbrev pub none_chosen : Chosen
 none_chosen =
     record { strict = false; format = None; task = None; awaits_format = false }
 
--- a format is chosen by its name
-abbrev pub format_with : Chosen → List ℕ → Option Chosen
-format_with o w =
-    if bytes_eq w (codes "text")
-    then Some (record o { format = Some Text; awaits_format = false })
-    else (if bytes_eq w (codes "json")
-    then Some (record o { format = Some Json; awaits_format = false }) else None)
+-- a format is chosen, and what is to be done, at most once each
+abbrev pub with_format : Chosen → Format → Option Chosen
+with_format o f =
+    if is_some o.format then None else Some (record o { format = Some f; awaits_format = false })
 
--- an option is chosen, what is to be done and a format at most once each
-abbrev pub option_with : Chosen → Word → Option Chosen
-option_with o word.Strict = Some (record o { strict = true })
-option_with o word.Format =
-    if is_some o.format then None else Some (record o { awaits_format = true })
-option_with o (word.FormatOf f) =
-    if is_some o.format then None else Some (record o { format = Some f })
-option_with o (word.Task t) = if is_some o.task then None else Some (record o { task = Some t })
-option_with o word.Unknown = None
+abbrev pub with_task : Chosen → Task → Option Chosen
+with_task o t = if is_some o.task then None else Some (record o { task = Some t })
+
+-- an option is chosen
+abbrev pub option_with : Chosen → List ℕ → Option Chosen
+option_with o w =
+    if bytes_eq w (codes "--strict") then Some (record o { strict = true })
+    else (if bytes_eq w (codes "--format")
+    then (if is_some o.format then None else Some (record o { awaits_format = true }))
+    else (if bytes_eq w (codes "--format=text") then with_format o Text
+    else (if bytes_eq w (codes "--format=json") then with_format o Json
+    else (if bytes_eq w (codes "--show") then with_task o task.Show
+    else (if bytes_eq w (codes "--compare") then with_task o task.Compare
+    else (if bytes_eq w (codes "--default") then with_task o task.DefaultFile
+    else (if bytes_eq w (codes "--schema") then with_task o task.Schema
+    else (if bytes_eq w (codes "-h") then with_task o task.Help
+    else (if bytes_eq w (codes "--help") then with_task o task.Help
+    else (if bytes_eq w (codes "--version") then with_task o task.Version
+    else None))))))))))
 
 -- what is chosen with one word more, which names no file
 abbrev pub chosen_with : Chosen → List ℕ → Option Chosen
-chosen_with o w = if o.awaits_format then format_with o w else option_with o (word_of w)
+chosen_with o w =
+    if not o.awaits_format then option_with o w
+    else (if bytes_eq w (codes "text") then with_format o Text
+    else (if bytes_eq w (codes "json") then with_format o Json else None))
 
 -- the word names a file, where no format is awaited
 abbrev pub names_file : Chosen → List ℕ → Bool
 names_file o w = not o.awaits_format && is_file_word w
 
 -- what words choose beside what was chosen before them, and the files that they name, in their
--- order; nothing where one of them may not stand there
-unfoldable pub said : Chosen → List (List ℕ) → Option (Chosen × List (List ℕ))
-said o [] = if o.awaits_format then None else Some (o, [])
-said o (w ∷ ws) =
-    if names_file o w then option_map (λ p. (p.0, w ∷ p.1)) (said o ws)
-    else option_and_then (λ next. said next ws) (chosen_with o w)
-
--- the same, after some files
-abbrev pub after_files : List (List ℕ) → Option (Chosen × List (List ℕ))
-    → Option (Chosen × List (List ℕ))
-after_files files = option_map (λ p. (p.0, files ++ p.1))
+-- order, behind those before them; nothing where one of them may not stand there
+unfoldable pub said : Chosen → List (List ℕ) → List (List ℕ) → Option (Chosen × List (List ℕ))
+said o files [] = Some (o, files)
+said o files (w ∷ ws) =
+    if names_file o w then said o (files ++ w ∷ []) ws
+    else option_and_then (λ next. said next files ws) (chosen_with o w)
 
 -- how many files a task takes
 abbrev pub takes_files : Task → ℕ → Bool
@@ -109,30 +97,20 @@ texts_of files = map string_bytes files
 abbrev pub task_in : Chosen → Task
 task_in o = unwrap_or o.task task.Check
 
--- the task takes the other options and so many files
+-- no format is awaited, and the task takes the other options and so many files
 abbrev pub fits : Chosen → ℕ → Bool
-fits o n = takes_files (task_in o) n && takes_options (task_in o) o
+fits o n = (not o.awaits_format && takes_files (task_in o) n) && takes_options (task_in o) o
 
--- what was said is a request
-abbrev pub IsRequest : Option (Chosen × List (List ℕ)) → Request → Type 0
-IsRequest None request = ⊥
-IsRequest (Some (o, files)) request =
+-- what was said is a request, or none
+abbrev pub Requested : Option (Chosen × List (List ℕ)) → Result Request RequestError → Type 0
+Requested None (Ok request) = ⊥
+Requested (Some (o, files)) (Ok request) =
     (request.strict ≡ o.strict) × (request.format ≡ unwrap_or o.format Text)
     × (request.task ≡ task_in o) × (texts_of request.files.items ≡ files)
     × (fits o (length files) ≡ true)
-
--- what was said is none
-abbrev pub IsNoRequest : Option (Chosen × List (List ℕ)) → Type 0
-IsNoRequest None = Unit {0}
-IsNoRequest (Some (o, files)) = fits o (length files) ≡ false
-
--- what options and files request, where no format is awaited
-abbrev pub RequestsWith : Chosen → List (List ℕ) → Result Request RequestError → Type 0
-RequestsWith o files (Ok request) =
-    IsRequest (if o.awaits_format then None else Some (o, files)) request
-RequestsWith o files (Err BadArguments) =
-    IsNoRequest (if o.awaits_format then None else Some (o, files))
-RequestsWith o files (Err NoMemory) = ⊥
+Requested None (Err BadArguments) = Unit {0}
+Requested (Some (o, files)) (Err BadArguments) = fits o (length files) ≡ false
+Requested said (Err NoMemory) = Unit {0}
 
 -- the arguments are none that the program knows
 abbrev pub IsBadArguments : RequestError → Type 0
@@ -141,9 +119,7 @@ IsBadArguments NoMemory = ⊥
 
 -- what the words after the program's name request
 abbrev pub RequestsIn : List (List ℕ) → Result Request RequestError → Type 0
-RequestsIn words (Ok request) = IsRequest (said none_chosen words) request
-RequestsIn words (Err BadArguments) = IsNoRequest (said none_chosen words)
-RequestsIn words (Err NoMemory) = Unit {0}
+RequestsIn words = Requested (said none_chosen [] words)
 
 -- what the arguments request: where they could not be had, there is no memory or they are bad
 abbrev pub Requests : Result (IntoIter (String Global) Global) Error → Result Request RequestError

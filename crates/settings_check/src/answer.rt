@@ -18,6 +18,7 @@ use crate::lines::{
 };
 use crate::schema::schema;
 use config_report::{default_file, settings_text};
+use iox2_config_file::SECTIONS;
 use line_streams::{Outcome, Sink, Source, Status, read_all, write_outcome, write_whole};
 use std::alloc::{AllocError, Global};
 use std::env::Args;
@@ -160,14 +161,16 @@ fn shown(alloc: Global, strict: bool, found: &Found<'_>) -> Result<Answer, Alloc
     })
 }
 
-/// Adds in what two files differ, if there are two without errors.
+/// Adds in what two files differ, those settings that all processes share first, if there are two
+/// without errors.
 fn add_compared(alloc: Global, found: &mut Found<'_>) -> Result<(), AllocError>
     requires { AreToml (found_view found.old).valid }
     ensures { OnOk result (found_view found.new ≡ with_compared (found_view found.old)) }
 {
     match found.valid.as_slice() {
         [first, second, ..] => {
-            add_differences(alloc, &mut found.reports, Pair { first, second })
+            let files = Pair { first, second };
+            add_differences(alloc, &mut found.reports, files, &SECTIONS)
         }
         _ => Ok(()),
     }

@@ -1,9 +1,8 @@
 //! What the arguments of the program request.
-ghost use Rattle.std.specs.Prelude.{◌≡◌, ◌∷◌, ◌++◌, [], ℕ, List, None, IfOk, IfErr, drop};
-ghost use Rattle.std.specs.Prelude.{string_bytes};
-ghost use Rattle.settings_check.specs.Words.{word_of, names_file};
-ghost use Rattle.settings_check.specs.Words.{chosen_with, format_with, option_with, said, after_files};
-ghost use Rattle.settings_check.specs.Words.{IsBadArguments, Requests, RequestsIn, RequestsWith};
+ghost use Rattle.std.specs.Prelude.{◌≡◌, ◌∷◌, ℕ, List, Some, None, IfOk, IfErr, drop, string_bytes};
+ghost use Rattle.settings_check.specs.Words.{chosen_with, names_file, option_with, said};
+ghost use Rattle.settings_check.specs.Words.{with_format, with_task};
+ghost use Rattle.settings_check.specs.Words.{IsBadArguments, Requested, Requests, RequestsIn};
 ghost use Rattle.settings_check.specs.Words.{takes_files, takes_options, texts_of, words_of};
 
 use std::alloc::Global;
@@ -39,21 +38,6 @@ pub(crate) enum Task {
     Version,
 }
 
-/// A word of the command line that names no file.
-#[derive(Clone, Copy)]
-pub(crate) enum Word {
-    /// `--strict`.
-    Strict,
-    /// `--format`, which a format follows.
-    Format,
-    /// `--format=` and a format.
-    FormatOf(Format),
-    /// An option that says what is to be done.
-    Task(Task),
-    /// An option that is none of these.
-    Unknown,
-}
-
 /// The options that were chosen.
 #[derive(Clone, Copy)]
 pub(crate) struct Chosen {
@@ -85,66 +69,70 @@ pub(crate) enum RequestError {
     NoMemory,
 }
 
-/// What a word is.
-fn word_of(word: &str) -> Word
-    ensures { result ≡ word_of word.now }
+/// What is chosen with a format, unless one was chosen before.
+fn with_format(chosen: Chosen, format: Format) -> Option<Chosen>
+    ensures { result ≡ with_format chosen format }
 {
-    match word {
-        "--strict" => Word::Strict,
-        "--format" => Word::Format,
-        "--format=text" => Word::FormatOf(Format::Text),
-        "--format=json" => Word::FormatOf(Format::Json),
-        "--show" => Word::Task(Task::Show),
-        "--compare" => Word::Task(Task::Compare),
-        "--default" => Word::Task(Task::DefaultFile),
-        "--schema" => Word::Task(Task::Schema),
-        "-h" => Word::Task(Task::Help),
-        "--help" => Word::Task(Task::Help),
-        "--version" => Word::Task(Task::Version),
-        _ => Word::Unknown,
+    match chosen.format {
+        Some(_) => None,
+        None => Some(Chosen {
+            format: Some(format),
+            awaits_format: false,
+            ..chosen
+        }),
     }
 }
 
-/// What is chosen with a format by its name.
-fn format_with(chosen: Chosen, word: &str) -> Option<Chosen>
-    ensures { result ≡ format_with chosen word.now }
+/// What is chosen with a task, unless one was chosen before.
+fn with_task(chosen: Chosen, task: Task) -> Option<Chosen>
+    ensures { result ≡ with_task chosen task }
 {
-    let format = match word {
-        "text" => Format::Text,
-        "json" => Format::Json,
-        _ => return None,
-    };
-    Some(Chosen {
-        strict: chosen.strict,
-        format: Some(format),
-        task: chosen.task,
-        awaits_format: false,
-    })
+    match chosen.task {
+        Some(_) => None,
+        None => Some(Chosen {
+            task: Some(task),
+            ..chosen
+        }),
+    }
 }
 
 /// What is chosen with an option.
-fn option_with(chosen: Chosen, word: Word) -> Option<Chosen>
-    ensures { result ≡ option_with chosen word }
+fn option_with(chosen: Chosen, word: &str) -> Option<Chosen>
+    ensures { result ≡ option_with chosen word.now }
 {
-    let mut next = chosen;
     match word {
-        Word::Strict => next.strict = true,
-        Word::Format if chosen.format.is_none() => next.awaits_format = true,
-        Word::FormatOf(format) if chosen.format.is_none() => next.format = Some(format),
-        Word::Task(task) if chosen.task.is_none() => next.task = Some(task),
-        _ => return None,
+        "--strict" => Some(Chosen {
+            strict: true,
+            ..chosen
+        }),
+        "--format" if chosen.format.is_none() => Some(Chosen {
+            awaits_format: true,
+            ..chosen
+        }),
+        "--format=text" => with_format(chosen, Format::Text),
+        "--format=json" => with_format(chosen, Format::Json),
+        "--show" => with_task(chosen, Task::Show),
+        "--compare" => with_task(chosen, Task::Compare),
+        "--default" => with_task(chosen, Task::DefaultFile),
+        "--schema" => with_task(chosen, Task::Schema),
+        "-h" => with_task(chosen, Task::Help),
+        "--help" => with_task(chosen, Task::Help),
+        "--version" => with_task(chosen, Task::Version),
+        _ => None,
     }
-    Some(next)
 }
 
 /// What is chosen with one word more, which names no file.
 fn chosen_with(chosen: Chosen, word: &str) -> Option<Chosen>
     ensures { result ≡ chosen_with chosen word.now }
 {
-    if chosen.awaits_format {
-        format_with(chosen, word)
-    } else {
-        option_with(chosen, word_of(word))
+    if !chosen.awaits_format {
+        return option_with(chosen, word);
+    }
+    match word {
+        "text" => with_format(chosen, Format::Text),
+        "json" => with_format(chosen, Format::Json),
+        _ => None,
     }
 }
 
@@ -155,30 +143,20 @@ fn names_file(chosen: Chosen, word: &str) -> bool
     !chosen.awaits_format && !matches!(word.as_bytes(), [b'-', _, ..])
 }
 
-/// Takes the name of a file.
-fn take_file(chosen: Chosen, files: &mut Vec<String>, word: String) -> Result<Chosen, RequestError>
-    ensures taken { IfOk result (λ next.
-        (next ≡ chosen) × (files.new.items ≡ files.old.items ++ word ∷ [])) }
-    ensures refused { IfErr result (λ why. ¬ IsBadArguments why) }
-{
-    match files.push(word) {
-        Ok(()) => Ok(chosen),
-        Err(_) => Err(RequestError::NoMemory),
-    }
-}
-
 /// Takes one word more: the name of a file, or an option.
-#[tactic(auto, using(crate::proofs::Saying::taken, crate::proofs::Saying::said_option, crate::proofs::Saying::said_none))]
+#[tactic(auto, using(crate::proofs::Lists::taken), unfolding(crate::specs::Words::said))]
 fn take_word(chosen: Chosen, files: &mut Vec<String>, word: String) -> Result<Chosen, RequestError>
     ensures taken { IfOk result (λ next. (words : List (List ℕ))
-        → after_files (texts_of files.old.items) (said chosen (string_bytes word ∷ words))
-        ≡ after_files (texts_of files.new.items) (said next words)) }
+        → said chosen (texts_of files.old.items) (string_bytes word ∷ words)
+        ≡ said next (texts_of files.new.items) words) }
     ensures refused { IfErr result (λ why. IsBadArguments why → (words : List (List ℕ))
-        → said chosen (string_bytes word ∷ words) ≡ None) }
+        → said chosen (texts_of files.old.items) (string_bytes word ∷ words) ≡ None) }
 {
     if names_file(chosen, word.as_str()) {
-        let next = take_file(chosen, files, word)?;
-        return Ok(next);
+        let Ok(()) = files.push(word) else {
+            return Err(RequestError::NoMemory);
+        };
+        return Ok(chosen);
     }
     match chosen_with(chosen, word.as_str()) {
         Some(next) => Ok(next),
@@ -212,7 +190,8 @@ fn takes_options(task: Task, chosen: Chosen) -> bool
 
 /// The request of options and files.
 fn request_with(chosen: Chosen, files: Vec<String>) -> Result<Request, RequestError>
-    ensures { RequestsWith chosen (texts_of files.items) result }
+    ensures requested { Requested (Some (chosen, texts_of files.items)) result }
+    ensures bad { IfErr result IsBadArguments }
 {
     let task = chosen.task.unwrap_or(Task::Check);
     if chosen.awaits_format {
@@ -230,7 +209,7 @@ fn request_with(chosen: Chosen, files: Vec<String>) -> Result<Request, RequestEr
 }
 
 /// What the words after the first request.
-#[tactic(auto, using(std::proofs::lemmas::List::nil_from_length, crate::proofs::Saying::words_end, crate::proofs::Saying::drop_first))]
+#[tactic(auto, using(std::proofs::lemmas::List::nil_from_length, crate::proofs::Lists::words_end, crate::proofs::Lists::drop_first))]
 fn request_in(alloc: Global, words: Args) -> Result<Request, RequestError>
     ensures { RequestsIn (drop 1 (words_of words)) result }
 {

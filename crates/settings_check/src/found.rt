@@ -1,6 +1,6 @@
 //! Files, by their names, what is found in them, and which settings of two of them differ.
 ghost use Rattle.std.specs.Prelude.{◌≡◌, ℕ, List, Result, IfOk, ⊤, ◌++◌, OnOk, Ok, Err};
-ghost use Rattle.std.specs.Prelude.{map, Some};
+ghost use Rattle.std.specs.Prelude.{Some, flat_map, map};
 ghost use Rattle.config_report.specs.Findings.{IsToml};
 ghost use Rattle.config_report.specs.Text.{value_pair};
 ghost use Rattle.iox2_config_file.specs.Write.{value_view};
@@ -9,7 +9,7 @@ ghost use Rattle.settings_check.specs.Found.{reports_of};
 ghost use Rattle.settings_check.specs.Found.{found_view, AddsGiven, AddsFile, AreFound};
 ghost use Rattle.settings_check.specs.Found.{pair_view, valid_in, valid_view};
 ghost use Rattle.settings_check.specs.Found.{AreParsed, setting_in, setting_view};
-ghost use Rattle.settings_check.specs.Found.{difference, difference_severity, differences};
+ghost use Rattle.settings_check.specs.Found.{difference, difference_severity};
 ghost use Rattle.settings_check.specs.Found.{is_shared, setting_differences, sharing_text};
 ghost use Rattle.settings_check.specs.Found.{elsewhere_text, said_beside, table_differences};
 ghost use Rattle.settings_check.specs.declared.found.FileError.{FileError};
@@ -19,7 +19,7 @@ use config_report::{
     Finding, Position, Severity, ValuePair, check_file, is_same, pair_at, written_at,
 };
 use iox2_config::config::Config;
-use iox2_config_file::{SECTIONS, Section, SettingValue, rows};
+use iox2_config_file::{Section, SettingValue, rows};
 use line_streams::read_all;
 use std::alloc::{AllocError, Global};
 use std::fs::File;
@@ -134,7 +134,7 @@ pub(crate) struct Found<'a> {
 }
 
 /// Adds what was found in one file to what was found before.
-#[tactic(auto, using(crate::proofs::Lists::items_end, std::proofs::lemmas::List::nil_from_length, crate::proofs::Lists::items_more, crate::proofs::Finding::reported))]
+#[tactic(auto, using(crate::proofs::Lists::items_end, std::proofs::lemmas::List::nil_from_length, crate::proofs::Lists::items_more, crate::proofs::Lists::reported))]
 fn add_findings<'a>(
     reports: &mut Vec<Report<'a>>,
     file: &'a str,
@@ -212,7 +212,7 @@ fn add_file<'a, F: Files>(
 }
 
 /// What is found in some files. `-` among their names is the standard input.
-#[tactic(auto, using(crate::proofs::Finding::found_end))]
+#[tactic(auto, using(crate::proofs::Lists::found_end))]
 pub(crate) fn find_in<'a, F: Files>(
     alloc: Global,
     files: &F,
@@ -364,7 +364,7 @@ pub(crate) struct Pair<'a, 'b> {
 }
 
 /// Adds a setting if it differs.
-#[tactic(auto, using(crate::proofs::Finding::reported), unfolding(crate::specs::Found::setting_differences))]
+#[tactic(auto, using(crate::proofs::Lists::reported), unfolding(crate::specs::Found::setting_differences))]
 fn add_setting<'a>(
     alloc: Global,
     reports: &mut Vec<Report<'a>>,
@@ -411,17 +411,17 @@ fn add_table<'a>(
     Ok(())
 }
 
-/// Adds all settings that differ, those that all processes share first.
+/// Adds all settings of some tables that differ.
 pub(crate) fn add_differences<'a>(
     alloc: Global,
     reports: &mut Vec<Report<'a>>,
     files: Pair<'a, '_>,
+    sections: &[Section],
 ) -> Result<(), AllocError>
     requires { AreParsed (pair_view files) }
-    ensures { OnOk result (reports_of reports.new.items
-        ≡ reports_of reports.old.items ++ differences (pair_view files.entry)) }
+    ensures { OnOk result (reports_of reports.new.items ≡ reports_of reports.old.items
+        ++ flat_map (table_differences (pair_view files.entry)) sections.now) }
 {
-    let sections = &SECTIONS;
     for section in sections {
         add_table(alloc, reports, files, *section)?;
     }

@@ -94,7 +94,7 @@ fn write_next(
 }
 
 /// Appends the keys of a table.
-#[tactic(auto, using(crate::proofs::Defining::properties_end, crate::proofs::Defining::property_next))]
+#[tactic(auto, using(crate::proofs::Lists::properties_end, crate::proofs::Lists::property_next))]
 fn write_properties(out: &mut String, section: Section, rows: &[Row]) -> Result<(), AllocError>
     ensures { OnOk result (string_bytes out.new
         ≡ string_bytes out.old ++ properties section true rows.now) }

@@ -9,14 +9,15 @@ returns c =
     let start = string_bytes c.args.out.now in
     let title = string_bytes c.write.new.self in
     let root = string_bytes c.write_named.new.out in
-    let services = string_bytes c.write_directory.new.out in
-    let nodes = string_bytes c.write_directory-2.new.out in
-    on_ok_weaker c.write_directory-2.result
+    let services = string_bytes c.write_named-2.new.out in
+    let nodes = string_bytes c.write_named-3.new.out in
+    on_ok_weaker c.write_named-3.result
     (λ last. then start title nodes _ _ c.in_ok-write.ensures.bytes
     (then title root nodes _ _
     (rw (c.as_str.ensures.value, c.root_path.ensures) at c.in_ok-write_named.ensures)
     (then root services nodes _ _
-    (c.in_ok-write_directory.ensures global.root_path global.service.directory
-    c.service_dir.ensures)
-    (last global.root_path global.node.directory c.node_dir.ensures))))
-    c.write_directory-2.ensures
+    (rw (c.directory_text.ensures global.root_path global.service.directory
+    c.service_dir-services.ensures) at c.in_ok-write_named-2.ensures)
+    (rw (c.directory_text-2.ensures global.root_path global.node.directory
+    c.node_dir-nodes.ensures) at last))))
+    c.write_named-3.ensures

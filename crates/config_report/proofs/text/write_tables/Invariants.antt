@@ -1,11 +1,10 @@
 use Rattle.std.proofs.Common.{◌≡◌, ◌++◌, drop, string_bytes}
 use Rattle.std.specs.Prelude.{flat_map}
-use Rattle.iox2_config_file.specs.Read.{sections}
 use Rattle.config_report.specs.Text.{table_lines}
 use Rattle.config_report.proofs.text.write_tables.Given as goal
 
 abbrev pub invariant-loop-section : goal.invariant-loop-section
 invariant-loop-section l =
     let lines = flat_map (table_lines l.default l.config) in
-    string_bytes l.out ++ lines (drop l.section-index sections)
-    ≡ string_bytes l.fn.out ++ lines sections
+    string_bytes l.out ++ lines (drop l.section-index l.sections)
+    ≡ string_bytes l.initial.out ++ lines l.sections

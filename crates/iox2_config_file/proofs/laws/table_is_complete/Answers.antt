@@ -1,4 +1,4 @@
-use Rattle.iox2_config_file.proofs.Complete.{table_is_complete}
+use Rattle.iox2_config_file.proofs.Rowed.{table_is_complete}
 use Rattle.iox2_config_file.proofs.laws.table_is_complete.Goals as goal
 
 pub returns : goal.returns

@@ -1,5 +1,5 @@
 use Rattle.std.proofs.Common.{rules}
-use Rattle.iox2_config_file.proofs.Values.{made_text, plain}
+use Rattle.iox2_config_file.proofs.Written.{made_text, plain}
 use Rattle.iox2_config_file.proofs.value.file_name.Goals as goal
 
 pub returns : goal.returns

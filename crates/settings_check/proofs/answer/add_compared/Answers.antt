@@ -4,7 +4,7 @@ use Rattle.std.proofs.lemmas.Result.{on_ok_weaker}
 use Rattle.settings_check.specs.Answer.{AreToml}
 use Rattle.settings_check.specs.Found.{valid_view}
 use Rattle.settings_check.proofs.Comparing.{both_toml, first_two}
-use Rattle.settings_check.proofs.Finding.{same_parts}
+use Rattle.settings_check.proofs.Lists.{same_parts}
 use Rattle.settings_check.proofs.answer.add_compared.Goals as goal
 
 pub add_differences-requires : goal.add_differences-requires

@@ -1,6 +1,6 @@
 use Rattle.std.proofs.Common.{refl, sym, append-nil}
 use Rattle.settings_check.specs.Found.{findings_seen}
-use Rattle.settings_check.proofs.Finding.{same_parts}
+use Rattle.settings_check.proofs.Lists.{same_parts}
 use Rattle.settings_check.proofs.found.add_checked.Goals as goal
 
 pub returns : goal.returns

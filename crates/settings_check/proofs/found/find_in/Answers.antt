@@ -1,6 +1,6 @@
 use Rattle.std.proofs.Common.{ap, ◌∙◌, string_bytes}
 use Rattle.settings_check.specs.Found.{found_view}
-use Rattle.settings_check.proofs.Finding.{found_next}
+use Rattle.settings_check.proofs.Lists.{found_next}
 use Rattle.settings_check.proofs.found.find_in.Goals as goal
 
 pub loop-name-preserved : goal.loop-name-preserved

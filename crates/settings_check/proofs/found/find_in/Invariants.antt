@@ -1,5 +1,5 @@
 use Rattle.settings_check.specs.Found.{found_view}
-use Rattle.settings_check.proofs.Finding.{FoundFollows}
+use Rattle.settings_check.proofs.Lists.{FoundFollows}
 use Rattle.settings_check.proofs.found.find_in.Given as goal
 
 abbrev pub invariant-loop-name : goal.invariant-loop-name

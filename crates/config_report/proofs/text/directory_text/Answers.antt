@@ -1,12 +1,11 @@
-use Rattle.std.proofs.Common.{◌≡◌, ◌∙◌, ℕ, List, ◌++◌, codes, length, nat_lt, true, refl, sym, ap, string_bytes}
+use Rattle.std.proofs.Common.{◌≡◌, ℕ, List, codes, length, nat_lt, true, refl, sym}
 use Rattle.std.proofs.lemmas.Bool.{lt-ltb}
-use Rattle.std.proofs.lemmas.Result.{on_ok_weaker}
 use Rattle.std.specs.Prelude.{Err}
 use Rattle.iox2_texts.specs.Path.{MakesJoined, join}
 use Rattle.iox2_texts.specs.declared.bounded.SemanticStringError.{SemanticStringError}
 use Rattle.iox2_texts.specs.declared.bounded.SemanticStringError.TheVariants.{InvalidContent, ExceedsMaximumLength}
-use Rattle.config_report.specs.Text.{named_line, directory_text}
-use Rattle.config_report.proofs.text.write_directory.Goals as goal
+use Rattle.config_report.specs.Text.{directory_text}
+use Rattle.config_report.proofs.text.directory_text.Goals as goal
 
 too_long : (root entry : List ℕ) (why : SemanticStringError) → MakesJoined root entry (Err why)
     → directory_text root entry ≡ codes "none: its path would have more than 255 bytes"
@@ -16,9 +15,5 @@ too_long root entry ExceedsMaximumLength h =
 too_long root entry InvalidContent h = absurd h
 
 pub returns-in-Err : goal.returns-in-Err
-returns-in-Err c =
-    on_ok_weaker c.write_named-in-Err.result
-    (λ e root entry h.
-    e ∙ ap (λ text. string_bytes c.args.out.now ++ named_line c.args.name.now text)
-    (sym (too_long root entry c.in-Err.field-0 (rw c.in-Err.is at h))))
-    c.write_named-in-Err.ensures
+returns-in-Err c root entry h =
+    sym (too_long root entry c.in-Err.field-0 (rw c.in-Err.is at h))
