@@ -1,4 +1,3 @@
 mod Begins
-mod Located
 mod Rising
 mod Shown

@@ -1,14 +1,16 @@
 -- What a time line shows, and what is drawn of a log.
-use Rattle.std.proofs.Common.{◌≡◌, ℕ, zero, suc, ◌+◌, ◌<◌, ◌≤◌, List, [], ◌∷◌, ◌++◌, Contains, get_or, length, inl, inr, ap, refl, subst, sym, ◌∙◌, arith, Option, Some, None, Result, Ok, Err, IfOk, IfSome, OnErr, codes, string_bytes}
+use Rattle.std.proofs.Common.{◌≡◌, ℕ, zero, suc, ◌+◌, ◌<◌, ◌≤◌, List, [], ◌∷◌, ◌++◌, All, Contains, get_or, length, inl, inr, ap, refl, subst, sym, ◌∙◌, arith, Option, Some, None, Result, Ok, Err, IfOk, IfSome, OnErr, codes, string_bytes}
 use Rattle.std.specs.Borrow.{Bor}
 use Rattle.std.proofs.lemmas.Bool.{cases_lt}
 use Rattle.std.proofs.lemmas.List.{length-append}
-use Rattle.std.proofs.lemmas.List.Elements.{All-push, Contains-append_left, Contains-push}
+use Rattle.std.proofs.lemmas.List.Elements.{All-contains, All-push, Contains-append_left, Contains-push}
 use Rattle.std.proofs.lemmas.List.Quantifiers.{all_pairs_push}
 use Rattle.history_drawing.specs.Calls.{text_at}
-use Rattle.history_drawing.specs.Timelines.{AreApart, AreBars, Extends, IsBar, IsBarOf, IsRow, IsWanted}
+use Rattle.history_drawing.specs.Coordinates.{IsDrawable}
+use Rattle.history_drawing.specs.Timelines.{AreApart, AreBars, Extends, IsBar, IsBarOf, IsPoint, IsRow, IsWanted}
 use Rattle.history_drawing.specs.declared.calls.LogCall.{LogCall}
 use Rattle.history_drawing.specs.declared.timeline.Bar.{Bar}
+use Rattle.history_drawing.specs.declared.timeline.Timeline.{Timeline}
 use Rattle.history_drawing.specs.declared.timeline.Window.{Window}
 use Rattle.std.specs.declared.alloc.AllocError.{AllocError}
 use Rattle.std.specs.Io.KnownBytes.{Appends}
@@ -114,6 +116,39 @@ module _ (lines : List (Bor (List ℕ))) (w : Window) where
         few = omega (arith, size, few);
         wide = omega (arith, size, wide, h.wide, x.2);
       }
+
+-- above the first line no call begins, whatever the limit
+pub none_above : (lines : List (Bor (List ℕ))) (w : Window) (limit lower : ℕ)
+    (rows : List (Bor (List ℕ))) (bars : List Bar) → limit ≤ w.first → lower ≤ limit
+    → AreBars lines w limit rows bars → AreBars lines w lower rows bars
+none_above lines w limit lower rows bars early less h = record {
+  each = h.each;
+  all = λ k seen a before is. absurd (omega (arith, a, before, early, less));
+  above = λ k d fits. let was = h.above k d fits in absurd (omega (arith, was.0, was.1, early));
+  rising = h.rising;
+  apart = h.apart;
+  few = h.few;
+  wide = h.wide;
+}
+
+pub drawable : (lines : List (Bor (List ℕ))) (w : Window) (limit : ℕ) (t : Timeline)
+    → AreBars lines w limit t.rows.items t.bars.items
+    → All (IsPoint t.bars.items) t.points.items → IsDrawable t
+drawable lines w limit t h points =
+    let rows : All (λ (b : Bar). b.row ≤ 200) t.bars.items =
+    λ k d fits. let (seen, wanted, is) = h.each k d fits in
+    omega (arith, is.row.0, h.wide, h.few) in
+    record {
+      bars = h.few;
+      rows = omega (arith, h.wide, h.few);
+      bar_rows = rows;
+      point_rows = λ k d fits.
+          let (b, there, within) = points k d fits in
+          let few : b.row ≤ 200 =
+          All-contains (λ (b : Bar). b.row ≤ 200) t.bars.items b rows there in
+          omega (arith, within.row, few);
+      point_parts = λ k d fits. let (b, there, within) = points k d fits in within.few;
+    }
 
 -- the status, and what the output and the errors get
 abbrev status_of : Result Drawing AllocError → ℕ

@@ -19,6 +19,8 @@ use Rattle.history_drawing.specs.Timelines.{ArePoints, AreBars, HasMany}
 use Rattle.history_drawing.specs.Svg.{svg_text}
 use Rattle.history_drawing.specs.declared.drawing.Drawing.{Drawing}
 use Rattle.history_drawing.specs.declared.drawing.TheConstants.{MANY_CALLS}
+use Rattle.history_drawing.specs.declared.timeline.Bar.{Bar}
+use Rattle.history_drawing.specs.declared.timeline.Point.{Point}
 use Rattle.history_drawing.specs.declared.timeline.Timeline.{Timeline}
 use Rattle.history_drawing.specs.declared.timeline.Window.{Window}
 
@@ -55,37 +57,27 @@ pub record IsWhole (log : List ℕ) (lines : List (Bor (List ℕ))) (w : Window)
   pub last : w.last ≡ length lines - 1
   pub wanted : w.wanted ≡ None
 
--- more than 200 calls belong in the picture of such lines
-abbrev pub HasManyIn : (List (Bor (List ℕ)) → Window → Type 0) → Type 0
-HasManyIn Is =
-    (lines : List (Bor (List ℕ))) × (w : Window) × Is lines w × HasMany lines w
-
--- The picture of the window of a refused reply: the wanted calls that begin in its lines, and no
--- points. The reply is marked.
-pub record ShowsWindow (log report : List ℕ) (reported : Refusal) (picture : List ℕ) : Type 0 where
-  pub lines : List (Bor (List ℕ))
-  pub w : Window
-  pub window : IsWindow log reported lines w
-  pub t : Timeline
-  pub bars : AreBars lines w (w.last + 1) t.rows.items t.bars.items
-  pub points : t.points.items ≡ []
-  pub refused : t.refused ≡ Some reported.line
-  pub is : IsPicture report t picture
-
--- The picture of a log that conforms: the calls on all services that begin in its lines, with the
--- points of orders that explain the log. No reply is marked.
-pub record ShowsAll (log report picture : List ℕ) : Type 0 where
-  pub lines : List (Bor (List ℕ))
-  pub w : Window
-  pub whole : IsWhole log lines w
-  pub t : Timeline
-  pub bars : AreBars lines w (w.last + 1) t.rows.items t.bars.items
+-- the points are those of orders that explain the log
+pub record AreExplained (log : List ℕ) (bars : List Bar) (points : List Point) : Type 0 where
   pub verdict : Verdict
   pub judged : Judged log verdict
   pub orders : List Order
   pub explain : HasOrders log verdict orders
-  pub points : ArePoints t.bars.items orders t.points.items
-  pub refused : t.refused ≡ None
+  pub are : ArePoints bars orders points
+
+-- the points of a picture: where no reply is marked those of orders that explain the log, else none
+abbrev pub HavePoints : List ℕ → Option ℕ → List Bar → List Point → Type 0
+HavePoints log None bars points = AreExplained log bars points
+HavePoints log (Some marked) bars points = points ≡ []
+
+-- The picture of a window of the lines of the log: the wanted calls that begin in it, and these
+-- points. The reply in this line is marked.
+pub record Shows (log : List ℕ) (lines : List (Bor (List ℕ))) (w : Window) (marked : Option ℕ)
+    (report picture : List ℕ) : Type 0 where
+  pub t : Timeline
+  pub bars : AreBars lines w (w.last + 1) t.rows.items t.bars.items
+  pub points : HavePoints log marked t.bars.items t.points.items
+  pub refused : t.refused ≡ marked
   pub is : IsPicture report t picture
 
 -- nothing is drawn, and this is reported
@@ -99,30 +91,40 @@ pub record IsDrawn (status : Status) (d : Drawing) : Type 0 where
   pub ended : d.status ≡ status
   pub reported : d.message.items ≡ []
 
--- the picture of a log that conforms is drawn with this report, or there are too many calls for one
+-- the status where no reply is marked, or one is
+abbrev pub status_for : Option ℕ → Status
+status_for None = Good
+status_for (Some marked) = Faulty
+
+-- the picture of a window is drawn with this report, or more than 200 calls belong in it
+abbrev pub DrawsLines : List ℕ → List (Bor (List ℕ)) → Window → Option ℕ → List ℕ → Drawing → Type 0
+DrawsLines log lines w marked report d =
+    (IsUndrawn MANY_CALLS.now d × HasMany lines w)
+    ⊎ (IsDrawn (status_for marked) d × Shows log lines w marked report (string_bytes d.picture))
+
+-- the picture of all lines of a log that conforms, with points
 abbrev pub DrawsAll : List ℕ → List ℕ → Drawing → Type 0
 DrawsAll log report d =
-    (IsUndrawn MANY_CALLS.now d × HasManyIn (IsWhole log))
-    ⊎ (IsDrawn Good d × ShowsAll log report (string_bytes d.picture))
+    (lines : List (Bor (List ℕ))) × (w : Window) × IsWhole log lines w
+    × DrawsLines log lines w None report d
 
--- so is that of the window of a refused reply
+-- that of the window of a refused reply, which is marked
 abbrev pub DrawsWindow : List ℕ → Refusal → List ℕ → Drawing → Type 0
 DrawsWindow log reported report d =
-    (IsUndrawn MANY_CALLS.now d × HasManyIn (IsWindow log reported))
-    ⊎ (IsDrawn Faulty d × ShowsWindow log report reported (string_bytes d.picture))
+    (lines : List (Bor (List ℕ))) × (w : Window) × IsWindow log reported lines w
+    × DrawsLines log lines w (Some reported.line) report d
 
--- what is drawn of a log that is judged so
-abbrev pub Draws : List ℕ → Verdict → Drawing → Type 0
-Draws log (verdict.Conforms n m) d = DrawsAll log (report_text (verdict.Conforms n m)) d
-Draws log (verdict.Refused reported) d =
-    DrawsWindow log reported (report_text (verdict.Refused reported)) d
-Draws log v d = IsUndrawn (report_text v) d
+-- what is drawn of a log that is judged so, with this report
+abbrev pub Draws : List ℕ → Verdict → List ℕ → Drawing → Type 0
+Draws log (verdict.Conforms n m) report d = DrawsAll log report d
+Draws log (verdict.Refused reported) report d = DrawsWindow log reported report d
+Draws log v report d = IsUndrawn report d
 
--- the log is judged in one way, and this is drawn of it
+-- the log is judged in one way, and this is drawn of it, with the report on that
 pub record IsDrawingOf (log : List ℕ) (d : Drawing) : Type 0 where
   pub end : Verdict
   pub judged : Judged log end
-  pub draws : Draws log end d
+  pub draws : Draws log end (report_text end) d
 
 -- the log was drawn: that is the status, and the writers got the picture and what is reported
 pub record DrawnWith (log : List ℕ) (status : ℕ) (out_old out_new err_old err_new : Option (List ℕ))

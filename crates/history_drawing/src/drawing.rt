@@ -1,16 +1,17 @@
 //! Pictures of logs.
-ghost use Rattle.std.specs.Prelude.{◌≡◌, ◌+◌, ℕ, IfNone, IfOk, IfSome, IsFalse, IsTrue, List};
+ghost use Rattle.std.specs.Prelude.{◌≡◌, ◌+◌, ◌<◌, ℕ, AllPairs, IfNone, IfOk, IfSome, IsFalse, IsTrue, List};
 ghost use Rattle.std.specs.Prelude.{string_bytes};
-ghost use Rattle.history_logs.specs.Reports.{report_text};
 ghost use Rattle.history_drawing.specs.Calls.{BeginsIn, IsAnsweredIn, IsElsewhere, IsServiceOf};
-ghost use Rattle.history_drawing.specs.Drawings.{AreLines, Draws, DrawsAll, DrawsWindow};
-ghost use Rattle.history_drawing.specs.Drawings.{IsDrawingOf, IsDrawn, IsPicture, IsUndrawn, IsWindow};
+ghost use Rattle.history_drawing.specs.Drawings.{AreLines, Draws, DrawsAll, DrawsLines};
+ghost use Rattle.history_drawing.specs.Drawings.{DrawsWindow, HavePoints, IsDrawingOf, IsDrawn};
+ghost use Rattle.history_drawing.specs.Drawings.{IsPicture, IsUndrawn, IsWindow, status_for};
+ghost use Rattle.history_drawing.specs.declared.timeline.Bar.{Bar};
 ghost use Rattle.history_drawing.specs.Coordinates.{IsDrawable};
 
 use crate::calls::{LogCall, below_first, call_at, first_service, lines_of, text_at};
 use crate::points::points_of;
 use crate::svg::write_svg;
-use crate::timeline::{BarEnd, Timeline, Window, timeline_of};
+use crate::timeline::{Bar, BarEnd, Point, Timeline, Window, timeline_of};
 use history_logs::logs::{Refusal, Verdict, order_log, report_log};
 use line_streams::Status;
 use std::alloc::{AllocError, Global};
@@ -40,15 +41,20 @@ fn undrawn(alloc: Global, report: &[u8]) -> Result<Drawing, AllocError>
     })
 }
 
+/// The status of a picture, by the line of the reply that is refused.
+fn status_for(refused: Option<usize>) -> Status
+    ensures { result ≡ status_for refused }
+{
+    match refused {
+        None => Status::Good,
+        Some(_) => Status::Faulty,
+    }
+}
+
 /// The picture of a time line, with a report.
-fn drawn(
-    alloc: Global,
-    status: Status,
-    timeline: &Timeline<'_>,
-    report: &[u8],
-) -> Result<Drawing, AllocError>
+fn drawn(alloc: Global, timeline: &Timeline<'_>, report: &[u8]) -> Result<Drawing, AllocError>
     requires { IsDrawable timeline.now }
-    ensures { IfOk result (λ d. IsDrawn status d
+    ensures { IfOk result (λ d. IsDrawn (status_for timeline.now.refused) d
         × IsPicture report.now timeline.now (string_bytes d.picture)) }
 {
     let notes = lines_of(alloc, report)?;
@@ -60,7 +66,7 @@ fn drawn(
         below_first(&notes),
     )?;
     Ok(Drawing {
-        status,
+        status: status_for(timeline.refused),
         picture,
         message: Vec::new(alloc),
     })
@@ -132,6 +138,44 @@ fn window_of(alloc: Global, lines: &[&[u8]], reported: &Refusal) -> Result<Windo
     })
 }
 
+/// The points of a picture: none where a reply is refused, and else where calls took effect by
+/// orders that explain the log.
+fn points_in(
+    alloc: Global,
+    log: &[u8],
+    refused: Option<usize>,
+    bars: &[Bar<'_>],
+) -> Result<Vec<Point>, AllocError>
+    requires { AllPairs (λ (one other : Bar). one.begin < other.begin) bars.now }
+    ensures { IfOk result (λ points. HavePoints log.now refused bars.now points.items) }
+{
+    match refused {
+        Some(_) => Ok(Vec::new(alloc)),
+        None => {
+            let (_, orders) = order_log(alloc, log)?;
+            points_of(alloc, bars, &orders)
+        }
+    }
+}
+
+/// The picture of the calls of a window, or that there are too many for one.
+fn draw_lines(
+    alloc: Global,
+    log: &[u8],
+    lines: &[&[u8]],
+    window: &Window,
+    refused: Option<usize>,
+    report: &[u8],
+) -> Result<Drawing, AllocError>
+    ensures { IfOk result (DrawsLines log.now lines.now window.now refused report.now) }
+{
+    let Some(mut timeline) = timeline_of(alloc, lines, window, refused)? else {
+        return undrawn(alloc, MANY_CALLS);
+    };
+    timeline.points = points_in(alloc, log, refused, &timeline.bars)?;
+    drawn(alloc, &timeline, report)
+}
+
 /// The picture of the window of a refused reply, or that it has too many calls for one.
 fn draw_refused(
     alloc: Global,
@@ -144,10 +188,7 @@ fn draw_refused(
     let lines = lines_of(alloc, log)?;
     let lines = lines.as_slice();
     let window = window_of(alloc, lines, reported)?;
-    let Some(timeline) = timeline_of(alloc, lines, &window, Some(reported.line))? else {
-        return undrawn(alloc, MANY_CALLS);
-    };
-    drawn(alloc, Status::Faulty, &timeline, report)
+    draw_lines(alloc, log, lines, &window, Some(reported.line), report)
 }
 
 /// The picture of all calls of a log that conforms, with the points at which they took effect, or
@@ -163,18 +204,12 @@ fn draw_whole(alloc: Global, log: &[u8], report: &[u8]) -> Result<Drawing, Alloc
         wanted: None,
         service: None,
     };
-    let Some(mut timeline) = timeline_of(alloc, lines, &window, None)? else {
-        return undrawn(alloc, MANY_CALLS);
-    };
-    let (_, orders) = order_log(alloc, log)?;
-    timeline.points = points_of(alloc, &timeline.bars, &orders)?;
-    drawn(alloc, Status::Good, &timeline, report)
+    draw_lines(alloc, log, lines, &window, None, report)
 }
 
 /// What is drawn of a log, by its verdict and the report on it.
 fn draw(alloc: Global, log: &[u8], verdict: &Verdict, report: &[u8]) -> Result<Drawing, AllocError>
-    requires { report.now ≡ report_text verdict.now }
-    ensures { IfOk result (Draws log.now verdict.now) }
+    ensures { IfOk result (Draws log.now verdict.now report.now) }
 {
     match verdict {
         Verdict::Refused(reported) => draw_refused(alloc, log, reported, report),

@@ -1,6 +1,6 @@
 -- Where the parts of a message end.
-use Rattle.std.proofs.Common.{◌≡◌, ℕ, zero, suc, ◌+◌, ◌*◌, ◌^◌, ◌<◌, ◌≤◌, arith}
-use Rattle.std.proofs.Math.Nat.{mul-le-mul_right}
+use Rattle.std.proofs.Common.{◌≡◌, ℕ, ◌+◌, ◌*◌, ◌^◌, ◌<◌, ◌≤◌, arith}
+use Rattle.std.proofs.Math.Nat.{le-mul_of_pos_right, mul-le-mul_right}
 use Rattle.std.proofs.lemmas.Nat.Gcd.{dvd-zero}
 use Rattle.iox2_config.specs.Blocks.{HoldsEverywhere}
 use Rattle.iox2_config.specs.Layout.{user_header_offset, payload_offset}
@@ -26,5 +26,4 @@ elements_inside start element elements i end is there = grind (arith, mul-le-mul
 
 -- so many ports take no less than one
 pub no_less : (bytes ports : ℕ) → 0 < ports → bytes ≤ bytes * ports
-no_less bytes zero some = absurd (omega arith)
-no_less bytes (suc ports) some = grind arith
+no_less bytes ports some = le-mul_of_pos_right bytes some

@@ -18,7 +18,7 @@ use Rattle.service_drawing.proofs.Forms.{ReadMany, one_read, many_stops, GoesOn,
 use Rattle.iox2_config.specs.declared.config.Config.{Config}
 use Rattle.iox2_config.specs.declared.config.defaults.Defaults.{Defaults}
 use Rattle.iox2_config.specs.declared.hash.input.PatternKind.{PatternKind}
-use Rattle.service_drawing.specs.Descriptions.{StopsReading, after_settings, BeginsInternal, IsServiceReason, AtSetting, IsUnknown, WasSet, IsSettingReason, AmongSettings, IsReason}
+use Rattle.service_drawing.specs.Descriptions.{StopsReading, after_settings, BeginsInternal, IsServiceReason, AtSetting, IsUnknown, WasSet, AmongSettings, IsReason}
 use Rattle.service_drawing.proofs.Descriptions.{Breaks, broken, service_same, after_settings_lawful, stops_behind_service}
 
 -- the setting of this number has another name
@@ -196,11 +196,35 @@ one_more_setting base k c d given marked at next bytes text r l s others =
       marks = rw (long, s.noted) (mark_more given (numbers sets) s.set.index r.marks);
     }
 
+-- a service that is read has no internal name
+from_outside : (k : PatternKind) (name rest bytes : List ℕ) → HasService k name rest bytes
+    → ¬ BeginsInternal bytes
+from_outside k name rest bytes h i = grind (arith, line_one, same_pattern)
+
+-- the settings are those of the pattern of the first line
+of_the_pattern : (Holds : PatternKind → List ℕ → List ℕ → Type 0) (k : PatternKind)
+    (name left rest bytes : List ℕ) → HasService k name rest bytes
+    → AmongSettings Holds left bytes → Holds k left rest
+of_the_pattern Holds k name left rest bytes h a =
+    let same = service_same a.kind k a.name name a.at_settings rest bytes a.service h in
+    rw (same.0, same.1) at a.holds
+
+-- where no other reason holds, it is the form
+other_form : (base : Config) (k : PatternKind) (name left rest bytes : List ℕ)
+    → HasService k name rest bytes → ¬ IsUnknown base k left rest → ¬ WasSet base k left rest
+    → IsReason base OtherForm left bytes
+other_form base k name left rest bytes h unknown set = (
+  from_outside k name rest bytes h,
+  λ a. unknown (of_the_pattern (IsUnknown base) k name left rest bytes h a),
+  λ a. set (of_the_pattern (WasSet base) k name left rest bytes h a),
+)
+
 -- where the next line sets nothing, reading stops there, and for this reason
 pub setting_refused : (base : Config) (k : PatternKind) (c : Config) (given : List Bool)
     (reason : Reason) (at bytes text tail : List ℕ) → Setting base k c given at bytes
     → IsLine (codes "set " ++ text) tail at → IsNotSet k c.defaults given text reason
-    → StopsAt (HasConfiguration base k) at bytes × IsSettingReason base k reason at bytes
+    → StopsAt (HasConfiguration base k) at bytes
+    × ((name before : List ℕ) → HasService k name bytes before → IsReason base reason at before)
 setting_refused base k c given reason at bytes text tail r l bad = (
   many_stops (codes "set ") (GivesSetting k base.defaults) (AreSettings base k) (λ set. set.index)
       (same_setting k base.defaults) c at bytes text tail r.read l (not_set reason bad),
@@ -261,23 +285,29 @@ setting_refused base k c given reason at bytes text tail r l bad = (
         let same = keys.1 in
         cc
 
-    because : (why : Reason) → IsNotSet k c.defaults given text why
-        → IsSettingReason base k why at bytes
-    because InternalName b = b
-    because UnknownSetting b = record { at = here b.0; none = b.1 }
-    because SetTwice b = record {
+    among : {Holds : PatternKind → List ℕ → List ℕ → Type 0} (name before : List ℕ)
+        → HasService k name bytes before → Holds k at bytes → AmongSettings Holds at before
+    among name before h b =
+        record { kind = k; name = name; at_settings = bytes; service = h; holds = b }
+
+    because : (why : Reason) → IsNotSet k c.defaults given text why → (name before : List ℕ)
+        → HasService k name bytes before → IsReason base why at before
+    because InternalName b name before h = absurd b
+    because UnknownSetting b name before h =
+        among name before h (record { at = here b.0; none = b.1 })
+    because SetTwice b name before h = among name before h (record {
       at = here b.0;
       index = b.1.index;
       setting = b.1.setting;
       before = sym (r.marks b.1.index true b.1.marked);
-    }
-    because OtherForm b = (
-      λ u. elim b.0 [
-        | inl none ↦ without_space u.at none
-        | inr m ↦ u.none m.index (rw (one u.at) m.setting.named)
-      ],
-      λ w. elim b.0 [ inl none ↦ without_space w.at none | inr m ↦ was_set m w ],
-    )
+    })
+    because OtherForm b name before h =
+        other_form base k name at bytes before h
+        (λ u. elim b.0 [
+          | inl none ↦ without_space u.at none
+          | inr m ↦ u.none m.index (rw (one u.at) m.setting.named)
+        ])
+        (λ w. elim b.0 [ inl none ↦ without_space w.at none | inr m ↦ was_set m w ])
 
 -- bytes without a line do not begin with that of a service
 pub no_line_reason : (bytes : List ℕ) → ((text rest : List ℕ) → ¬ IsLine text rest bytes)
@@ -303,40 +333,6 @@ pub no_service_reason : (base : Config) (reason : Reason) (left bytes : List ℕ
     → IsServiceReason reason bytes → IsReason base reason left bytes
 no_service_reason base reason left bytes none b = grind arith
 
--- a service that is read has no internal name
-from_outside : (k : PatternKind) (name rest bytes : List ℕ) → HasService k name rest bytes
-    → ¬ BeginsInternal bytes
-from_outside k name rest bytes h i = grind (arith, line_one, same_pattern)
-
--- the settings are those of the pattern of the first line
-of_the_pattern : (Holds : PatternKind → List ℕ → List ℕ → Type 0) (k : PatternKind)
-    (name left rest bytes : List ℕ) → HasService k name rest bytes
-    → AmongSettings Holds left bytes → Holds k left rest
-of_the_pattern Holds k name left rest bytes h a =
-    let same = service_same a.kind k a.name name a.at_settings rest bytes a.service h in
-    rw (same.0, same.1) at a.holds
-
-pub reason_in_settings : (base : Config) (reason : Reason) (k : PatternKind)
-    (name left rest bytes : List ℕ)
-    → HasService k name rest bytes → IsSettingReason base k reason left rest
-    → IsReason base reason left bytes
-reason_in_settings base reason k name left rest bytes h b = go reason b
-  where
-    among : (Holds : PatternKind → List ℕ → List ℕ → Type 0) → Holds k left rest
-        → AmongSettings Holds left bytes
-    among Holds b =
-        record { kind = k; name = name; at_settings = rest; service = h; holds = b }
-
-    go : (why : Reason) → IsSettingReason base k why left rest → IsReason base why left bytes
-    go InternalName b = absurd b
-    go UnknownSetting b = among (IsUnknown base) b
-    go SetTwice b = among (WasSet base) b
-    go OtherForm b = (
-      from_outside k name rest bytes h,
-      λ a. b.0 (of_the_pattern (IsUnknown base) k name left rest bytes h a),
-      λ a. b.1 (of_the_pattern (WasSet base) k name left rest bytes h a),
-    )
-
 -- behind the settings a line is bad for its form
 pub stops_behind_settings : (base : Config) (reason : Reason) (k : PatternKind) (name : List ℕ)
     (c : Config) (left rest mid bytes : List ℕ) → reason ≡ OtherForm → HasService k name mid bytes
@@ -348,8 +344,7 @@ stops_behind_settings base reason k name c left rest mid bytes e h g bad =
     let next = goes_on (codes "set ") (GivesSetting k base.defaults) no_key (λ x y t p q. refl)
     a.sets g.each left rest mid a.text a.rest a.before a.line g.lines g.ends in
     omega (arith, next.within, texts_within s.read left rest s.lines) in
-    let form = reason_in_settings base OtherForm k name left mid bytes h
-    (λ u. late u.at, λ w. late w.at) in (
+    let form = other_form base k name left mid bytes h (λ u. late u.at) (λ w. late w.at) in (
       stops_behind_service base k name left mid bytes h (elim bad [
         | inl fails ↦ inl (inr (c, rest, g, fails))
         | inr more ↦ inr ((c, more.0), (rest, g, more.1), more.2)

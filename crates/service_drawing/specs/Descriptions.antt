@@ -161,14 +161,6 @@ pub record WasSet (base : Config) (kind : PatternKind) (left bytes : List ℕ) :
   pub setting : IsSetting (setting_names kind) index (word_of at.text)
   pub before : IsTrue (list_any (nat_eq index) (map (λ set. set.index) at.sets))
 
--- this is the reason why a line sets nothing
-abbrev pub IsSettingReason : Config → PatternKind → Reason → List ℕ → List ℕ → Type 0
-IsSettingReason base kind InternalName left bytes = ⊥
-IsSettingReason base kind UnknownSetting left bytes = IsUnknown base kind left bytes
-IsSettingReason base kind SetTwice left bytes = WasSet base kind left bytes
-IsSettingReason base kind OtherForm left bytes =
-    (¬ IsUnknown base kind left bytes) × (¬ WasSet base kind left bytes)
-
 -- the bytes begin with the line of a service, and this holds of what follows it, for its pattern
 pub record AmongSettings (Holds : PatternKind → List ℕ → List ℕ → Type 0)
     (left bytes : List ℕ) : Type 0 where

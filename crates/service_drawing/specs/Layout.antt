@@ -86,4 +86,4 @@ AreSegments segments (Blackboard key) d = segments ≡ None ∷ None ∷ []
 -- a number of things
 abbrev pub counted_text : Counted → List ℕ
 counted_text c =
-    decimal c.number ++ 32 ∷ (c.name.now ++ cond (nat_eq c.number 1) [] (codes "s"))
+    decimal c.0 ++ 32 ∷ (c.1.now ++ cond (nat_eq c.0 1) [] (codes "s"))

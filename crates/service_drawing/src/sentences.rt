@@ -11,24 +11,13 @@ use std::ops::Range;
 
 /// A number of things of one name: `1 byte`, `2 bytes`.
 #[derive(Clone, Copy)]
-pub(crate) struct Counted {
-    number: usize,
-    name: &'static str,
-}
-
-impl Counted {
-    /// So many things of this name.
-    pub(crate) fn new(number: usize, name: &'static str) -> Self {
-        Counted { number, name }
-    }
-}
+pub(crate) struct Counted(pub(crate) usize, pub(crate) &'static str);
 
 impl fmt::Display for Counted {
     ghost output = { λ counted. Some (counted_text counted) };
 
     fn fmt<W: fmt::Write>(&self, f: &mut fmt::Formatter<W>) -> fmt::Result {
-        let number = self.number;
-        let name = self.name;
+        let Counted(number, name) = *self;
         match number {
             1 => write!(f, "{number} {name}"),
             _ => write!(f, "{number} {name}s"),
@@ -123,22 +112,18 @@ pub(crate) fn write_memory(
     write!(
         out,
         "{} of {}, ",
-        Counted::new(chunks, "chunk"),
-        Counted::new(layout.size, "byte")
+        Counted(chunks, "chunk"),
+        Counted(layout.size, "byte")
     )?;
     write_bytes(out, layout.memory_of_all(chunks, 1))?;
-    write!(
-        out,
-        ", of all {}: ",
-        Counted::new(segment.ports, segment.port)
-    )?;
+    write!(out, ", of all {}: ", Counted(segment.ports, segment.port))?;
     write_bytes(out, layout.memory_of_all(chunks, segment.ports))
 }
 
 /// Appends a number of bytes, or that 64 bits do not have it.
 fn write_bytes(out: &mut String, bytes: Option<usize>) -> Result<(), AllocError> {
     match bytes {
-        Some(bytes) => write!(out, "{}", Counted::new(bytes, "byte")),
+        Some(bytes) => write!(out, "{}", Counted(bytes, "byte")),
         None => write!(out, "more than 18446744073709551615 bytes, too many"),
     }
 }

@@ -4,10 +4,9 @@ ghost use Rattle.service_drawing.specs.Streams.{IsRequest, IsRequestOf, words_of
 ghost use Rattle.service_drawing.specs.Streams.{IsTextOrNoMemory, Draws, Answers, Reported};
 ghost use Rattle.std.specs.Io.KnownBytes.{IsAtEnd};
 ghost use Rattle.line_streams.specs.Streams.{Fails, IsFlushed, ReadFails};
-ghost use Rattle.service_drawing.specs.Descriptions.{IsOver};
 
 use crate::fault::{Fault, bad_line};
-use crate::front::{Over, base_of};
+use crate::front::base_of;
 use crate::reading::read_description;
 use crate::svg::write_svg;
 use crate::text::write_text;
@@ -109,14 +108,6 @@ fn drawn(alloc: Global, form: Form, bytes: &[u8]) -> Result<Written, Fault>
     ensures { Draws bytes.now result }
 {
     let over = base_of(alloc, bytes)?;
-    drawn_over(alloc, form, bytes, over)
-}
-
-/// What is left of an input is drawn as, or why it is not drawn.
-fn drawn_over(alloc: Global, form: Form, bytes: &[u8], over: Over<'_>) -> Result<Written, Fault>
-    requires { IsOver over.base (string_bytes over.warnings) over.rest.now bytes.now }
-    ensures { Draws bytes.now result }
-{
     let service = match read_description(over.rest, over.base) {
         Ok(service) => service,
         Err(expected) => return Err(bad_line(bytes, expected)),
@@ -168,29 +159,13 @@ fn answer<R: Source>(
     ensures failed { IfErr result (ReadFails R.FailsBy input.new) }
 {
     match request {
-        Ok(request) => answer_to(alloc, request, input),
-        Err(fault) => Ok(Err(fault)),
-    }
-}
-
-/// What is answered to a request.
-fn answer_to<R: Source>(
-    alloc: Global,
-    request: Request,
-    input: &mut R,
-) -> io::Result<Result<Written, Fault>>
-    ensures end_is { IfOk result (λ end. Answers (R.remaining input.old) (Ok request) end) }
-    ensures read { IfOk result (λ end. IfOk end (λ written.
-        IsRead (Ok request) → IsAtEnd (R.remaining input.new))) }
-    ensures failed { IfErr result (ReadFails R.FailsBy input.new) }
-{
-    match request {
-        Request::Drawing(form) => match read_all(alloc, input)? {
+        Ok(Request::Drawing(form)) => match read_all(alloc, input)? {
             Ok(bytes) => Ok(drawn(alloc, form, &bytes)),
             Err(_) => Ok(Err(Fault::NoMemory)),
         },
-        Request::Help => Ok(text_of(alloc, HELP)),
-        Request::Version => Ok(text_of(alloc, VERSION)),
+        Ok(Request::Help) => Ok(text_of(alloc, HELP)),
+        Ok(Request::Version) => Ok(text_of(alloc, VERSION)),
+        Err(fault) => Ok(Err(fault)),
     }
 }
 

@@ -166,7 +166,7 @@ fn write_description(out: &mut String, service: &Description) -> Result<(), Allo
         Exchange::Blackboard(key) => write!(
             out,
             "No messages, but values with keys of {}.",
-            Counted::new(key.size(), "byte")
+            Counted(key.size(), "byte")
         )?,
         _ => {}
     }
@@ -190,7 +190,7 @@ fn write_sheet(sheet: &mut Sheet, service: &Description) -> Result<(), AllocErro
             sheet.write_lines(NOTE, "no messages, but values with keys of this type:")?;
             let text = format!(in sheet.alloc;
                 "{}, alignment {}, {}",
-                Counted::new(key.size(), "byte"),
+                Counted(key.size(), "byte"),
                 key.alignment(),
                 key.type_name()
             )?;

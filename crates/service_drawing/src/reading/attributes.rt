@@ -16,9 +16,7 @@ fn pair_in(text: &[u8]) -> Option<(AttributeKey, AttributeValue)>
     ensures { MatchOption result ((pair : Pair) → ¬ GivesPair pair text.now)
         (λ pair. GivesPair (record { key = pair.0; value = pair.1 }) text.now) }
 {
-    let Some((key, value)) = before_byte(text, b' ') else {
-        return None;
-    };
+    let (key, value) = before_byte(text, b' ')?;
     let Ok(key) = AttributeKey::new(key) else {
         return None;
     };
@@ -96,20 +94,14 @@ fn requiring(required: AttributeVerifier, text: &[u8]) -> Option<AttributeVerifi
         (RequiresMore required text.now) }
 {
     if let Some(text) = after_word(text, b" ") {
-        let Some((key, value)) = pair_in(text) else {
-            return None;
-        };
+        let (key, value) = pair_in(text)?;
         match required.require(&key, &value) {
             Ok(more) => Some(more),
             Err(_) => None,
         }
     } else {
-        let Some(text) = after_word(text, b"-key ") else {
-            return None;
-        };
-        let Some(key) = key_in(text) else {
-            return None;
-        };
+        let text = after_word(text, b"-key ")?;
+        let key = key_in(text)?;
         match required.require_key(&key) {
             Ok(more) => Some(more),
             Err(_) => None,

@@ -6,7 +6,6 @@ ghost use Rattle.iox2_config.specs.TypeDetailParts.{TypeDetailParts};
 ghost use Rattle.iox2_config.specs.declared.types.message_details.MessageTypeDetails.{
   MessageTypeDetails,
 };
-ghost use Rattle.iox2_config.specs.declared.types.type_detail.TypeVariant.TheVariants.{Dynamic};
 ghost use Rattle.service_drawing.specs.Lines.{type_text, payload_text, alignments_text};
 ghost use Rattle.service_drawing.specs.Lines.{AreAlignments, IsDescribed, IsFailure};
 ghost use Rattle.service_drawing.specs.Lines.{type_line, payload_line, elements_line, opener_line};
@@ -26,13 +25,9 @@ fn numbers_in(text: &[u8]) -> Option<(usize, usize, &[u8])>
         → ¬ (text.now ≡ decimal m ++ 32 ∷ (decimal n ++ 32 ∷ rest)))
         (λ found. text.now ≡ decimal found.0 ++ 32 ∷ (decimal found.1 ++ 32 ∷ found.2.now)) }
 {
-    let Some(((first, second), rest)) = Then(ANY, After(b" ", ANY)).read(text) else {
-        return None;
-    };
-    match after_word(rest, b" ") {
-        Some(rest) => Some((first as usize, second as usize, rest)),
-        None => None,
-    }
+    let ((first, second), rest) = Then(ANY, After(b" ", ANY)).read(text)?;
+    let rest = after_word(rest, b" ")?;
+    Some((first as usize, second as usize, rest))
 }
 
 /// The type with the size, the alignment and the name of the text.
@@ -41,9 +36,7 @@ fn type_in(text: &[u8], variant: TypeVariant) -> Option<TypeDetail>
         ((t : TypeDetailParts) → t.variant ≡ variant → IsDescribed t → ¬ (text.now ≡ type_text t))
         (λ t. (t.variant ≡ variant) × IsDescribed t × (text.now ≡ type_text t)) }
 {
-    let Some((size, alignment, name)) = numbers_in(text) else {
-        return None;
-    };
+    let (size, alignment, name) = numbers_in(text)?;
     if name.is_empty() {
         return None;
     }
@@ -88,25 +81,12 @@ fn opener_in(text: &[u8], service: &MessageTypeDetails) -> Option<MessageTypeDet
         (λ opener. AreAlignments opener × (text.now ≡ alignments_text opener)) }
     ensures same { IfSome result (λ opener. opener ≡ aligned service.now opener) }
 {
-    let Some((header, user_header, payload)) = numbers_in(text) else {
-        return None;
-    };
-    let Some(payload) = number(payload) else {
-        return None;
-    };
-    let Some(header) = aligned(&service.header, header) else {
-        return None;
-    };
-    let Some(user_header) = aligned(&service.user_header, user_header) else {
-        return None;
-    };
-    let Some(payload) = aligned(&service.payload, payload) else {
-        return None;
-    };
+    let (header, user_header, payload) = numbers_in(text)?;
+    let payload = number(payload)?;
     Some(MessageTypeDetails {
-        header,
-        user_header,
-        payload,
+        header: aligned(&service.header, header)?,
+        user_header: aligned(&service.user_header, user_header)?,
+        payload: aligned(&service.payload, payload)?,
     })
 }
 
@@ -154,25 +134,6 @@ fn payload_before<'a>(
     }
 }
 
-/// The line of the number of elements of a dynamic payload.
-fn number_of_elements_before<'a>(
-    bytes: &'a [u8],
-    prefix: &'static str,
-) -> Result<(usize, &'a [u8]), Expected<'a>>
-    ensures { MatchResult result
-        (λ found. (elements_line prefix.now Dynamic).Has found.0 found.1.now bytes.now)
-        (IsFailure (elements_line prefix.now Dynamic) bytes.now) }
-{
-    let expected = Expected::prefixed(bytes, prefix, "elements NUMBER");
-    let Some((text, rest)) = line_after(bytes, prefix, "elements ") else {
-        return Err(expected);
-    };
-    match number(text) {
-        Some(elements) => Ok((elements, rest)),
-        None => Err(expected),
-    }
-}
-
 /// The line of the number of elements, which a dynamic payload has and a fixed one has not.
 fn elements_before<'a>(
     bytes: &'a [u8],
@@ -183,9 +144,18 @@ fn elements_before<'a>(
         (λ found. (elements_line prefix.now variant).Has found.0 found.1.now bytes.now)
         (IsFailure (elements_line prefix.now variant) bytes.now) }
 {
+    let expected = Expected::prefixed(bytes, prefix, "elements NUMBER");
     match variant {
         TypeVariant::FixedSize => Ok((1, bytes)),
-        TypeVariant::Dynamic => number_of_elements_before(bytes, prefix),
+        TypeVariant::Dynamic => {
+            let Some((text, rest)) = line_after(bytes, prefix, "elements ") else {
+                return Err(expected);
+            };
+            match number(text) {
+                Some(elements) => Ok((elements, rest)),
+                None => Err(expected),
+            }
+        }
     }
 }
 

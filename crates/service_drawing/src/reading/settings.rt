@@ -1,8 +1,8 @@
 //! The lines of settings.
-ghost use Rattle.std.specs.Prelude.{◌≡◌, ◌<◌, ◌↔◌, ℕ, IsTrue, Some, IfOk, IfSome, IfErr, MatchOption, MatchResult};
+ghost use Rattle.std.specs.Prelude.{◌≡◌, ◌<◌, ◌↔◌, ℕ, List, IsTrue, Some, IfOk, IfSome, IfErr, MatchOption, MatchResult};
 ghost use Rattle.std.specs.Prelude.{slice_get};
-ghost use Rattle.service_drawing.specs.Lines.{StopsAt};
-ghost use Rattle.service_drawing.specs.Descriptions.{IsSettingReason};
+ghost use Rattle.service_drawing.specs.Lines.{HasService, StopsAt};
+ghost use Rattle.service_drawing.specs.Descriptions.{IsReason};
 ghost use Rattle.service_drawing.specs.Settings.{HasConfiguration, HasName, IsDashed, IsNamed, IsNotSet};
 ghost use Rattle.service_drawing.specs.Settings.{IsSetting, Sets, restored};
 ghost use Rattle.service_drawing.specs.Settings.{setting_names, setting_values};
@@ -109,7 +109,8 @@ pub(super) fn settings_before<'a>(
     ensures { MatchResult result
         (λ rest. HasConfiguration config.old kind config.new rest.now bytes.now)
         (λ expected. StopsAt (HasConfiguration config.old kind) expected.rest.now bytes.now
-        × IsSettingReason config.old kind expected.reason expected.rest.now bytes.now) }
+        × ((name before : List ℕ) → HasService kind name bytes.now before
+        → IsReason config.old expected.reason expected.rest.now before)) }
 {
     let mut given = [false; 32];
     let mut rest = bytes;

@@ -19,9 +19,7 @@ pub(super) fn next_line(bytes: &[u8]) -> Option<(&[u8], &[u8])>
         (λ found. IsLine found.0.now found.1.now bytes.now) }
     ensures shorter { IfSome result (λ found. length found.1.now < length bytes.now) }
 {
-    let Some((line, rest)) = before_byte(bytes, b'\n') else {
-        return None;
-    };
+    let (line, rest) = before_byte(bytes, b'\n')?;
     if !is_plain(line) {
         return None;
     }
@@ -39,15 +37,9 @@ pub(super) fn line_after<'a>(
         (λ found. IsLine (prefix.now ++ word.now ++ found.0.now) found.1.now bytes.now) }
     ensures shorter { IfSome result (λ found. length found.1.now < length bytes.now) }
 {
-    let Some((line, rest)) = next_line(bytes) else {
-        return None;
-    };
-    let Some(text) = after_word(line, prefix.as_bytes()) else {
-        return None;
-    };
-    let Some(text) = after_word(text, word.as_bytes()) else {
-        return None;
-    };
+    let (line, rest) = next_line(bytes)?;
+    let text = after_word(line, prefix.as_bytes())?;
+    let text = after_word(text, word.as_bytes())?;
     Some((text, rest))
 }
 
@@ -59,8 +51,6 @@ pub(crate) fn number(text: &[u8]) -> Option<usize>
     ensures { MatchOption result ((n : ℕ) → n < 2 ^ 64 → ¬ (text.now ≡ decimal n))
         (λ n. text.now ≡ decimal n) }
 {
-    match Then(ANY, LineEnd::Bytes).read(text) {
-        Some(((n, _), _)) => Some(n as usize),
-        None => None,
-    }
+    let ((n, _), _) = Then(ANY, LineEnd::Bytes).read(text)?;
+    Some(n as usize)
 }

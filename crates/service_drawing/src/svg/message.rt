@@ -232,7 +232,7 @@ pub(super) fn write_message(sheet: &mut Sheet, segment: Segment<'_>) -> Result<(
         sheet.skip(120);
         return Ok(());
     };
-    let size = Counted::new(layout.size, "byte");
+    let size = Counted(layout.size, "byte");
     let alignment = message.details.header.alignment();
     writeln!(sheet.drawn, "{size}, alignment {alignment}</text>")?;
     let top = sheet.top;
@@ -260,11 +260,11 @@ pub(super) fn write_summary(out: &mut String, segment: Segment<'_>) -> Result<()
     write!(
         out,
         "A {title} of {}: a header of {} at offset 0, a user header of {} at offset {}, a payload of {} at offset {}.",
-        Counted::new(layout.size, "byte"),
-        Counted::new(layout.header.len(), "byte"),
-        Counted::new(layout.user_header.len(), "byte"),
+        Counted(layout.size, "byte"),
+        Counted(layout.header.len(), "byte"),
+        Counted(layout.user_header.len(), "byte"),
         layout.user_header.start,
-        Counted::new(layout.elements, "element"),
+        Counted(layout.elements, "element"),
         layout.payload.start
     )
 }
@@ -276,7 +276,7 @@ fn write_row(sheet: &mut Sheet, row: Row<'_>) -> Result<(), AllocError> {
     let class = row.class;
     let name = row.name;
     let offset = row.span.start;
-    let size = Counted::new(row.span.len(), "byte");
+    let size = Counted(row.span.len(), "byte");
     writeln!(
         sheet.drawn,
         "<rect x=\"200\" y=\"{top}\" width=\"140\" height=\"140\" class=\"part {class}\"/>"
@@ -304,8 +304,8 @@ fn write_notes(
     segment: Segment<'_>,
     layout: &MessageLayout,
 ) -> Result<(), AllocError> {
-    let elements = Counted::new(layout.elements, "element");
-    let size = Counted::new(layout.element, "byte");
+    let elements = Counted(layout.elements, "element");
+    let size = Counted(layout.element, "byte");
     let apart = drawn_apart(layout);
     sheet.skip(60);
     let mut text = format!(in sheet.alloc; "{elements} of {size}")?;

@@ -1,5 +1,5 @@
 use Rattle.std.proofs.Common.{◌≡◌, ◌+◌, ◌≤◌, ℕ, arith, refl, rules, subst}
-use Rattle.history_drawing.proofs.Located.{none_above}
+use Rattle.history_drawing.proofs.Shown.{none_above}
 use Rattle.history_drawing.specs.Timelines.{AreBars}
 use Rattle.history_drawing.proofs.timeline.timeline_of.Goals.{else-loop-line-test, then-loop-line-test+in_ok-add_line+else-not-branch+else-line-line-end}
 use Rattle.history_drawing.proofs.timeline.timeline_of.Goals as goal

@@ -2,7 +2,7 @@ use Rattle.std.proofs.Common.{inl, inr}
 use Rattle.service_drawing.specs.Descriptions.{after_settings}
 use Rattle.service_drawing.proofs.Descriptions.{Breaks, stops_behind_service}
 use Rattle.service_drawing.proofs.Answered.{handed_on}
-use Rattle.service_drawing.proofs.SettingLines.{reason_in_settings, stops_behind_settings}
+use Rattle.service_drawing.proofs.SettingLines.{stops_behind_settings}
 use Rattle.service_drawing.proofs.reading.read_description.Goals as goal
 
 pub returns-in_err-rest : goal.returns-in_err-rest
@@ -12,8 +12,7 @@ returns-in_err-rest c =
     handed_on _ _ _ _ c.from_residual-in_err-rest.ensures (
       stops_behind_service c.args.base s.service.kind s.service.name _ s.rest.now c.args.bytes.now
           s.ensures.spelled (inl (inl bad.ensures.0)),
-      reason_in_settings c.args.base bad.field-0.0.reason s.service.kind s.service.name _ s.rest.now
-          c.args.bytes.now s.ensures.spelled bad.ensures.1,
+      bad.ensures.1 s.service.name c.args.bytes.now s.ensures.spelled,
     )
 
 pub returns-in_err-exchange : goal.returns-in_err-exchange
