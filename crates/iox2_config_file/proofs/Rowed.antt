@@ -1,5 +1,5 @@
--- The settings of a table beside its rows, and the tables of a file, one after the other. There is a
--- row for each field: settings of equal rows are equal.
+-- The settings of a table beside its rows, and the tables of a file, one after the other. There is
+-- a row for each field: settings of equal rows are equal.
 use Rattle.std.proofs.Common.{◌≡◌, ℕ, zero, suc, ◌+◌, ◌≤◌, true, false, cond, List, [], ◌∷◌, ◌++◌, length, map, drop, slice_get, Option, Some, None, refl, sym, ap, ◌∙◌, subst, add-one, append_assoc, append-nil, arith, length-append, drop_of_length-le, rules, ◌<◌, get_or, drop-cons}
 use Rattle.std.specs.List.{filter_map}
 use Rattle.std.proofs.lemmas.List.{length-map, length-drop}

@@ -1,5 +1,5 @@
--- The settings of a table as they are written, and as they are read from that: the parts of a value,
--- what makers of texts answer, and the lines of each setting.
+-- The settings of a table as they are written, and as they are read from that: the parts of a
+-- value, what makers of texts answer, and the lines of each setting.
 use Rattle.std.proofs.Common.{◌≡◌, ℕ, ◌/◌, ◌%◌, ◌<◌, ◌≤◌, ◌^◌, pos, Bool, true, false, not, ◌&&◌, ◌||◌, List, [], ◌∷◌, ◌++◌, length, codes, map, Option, Some, None, option_map, Ok, refl, sym, ap, arith, append_assoc, subst, rules, Result}
 use Rattle.std.specs.Prelude.{nat_lt, ⊤, nat_le, Contains}
 use Rattle.std.specs.List.{list_all, filter_map, list_any}
