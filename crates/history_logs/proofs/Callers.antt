@@ -57,7 +57,8 @@ one_on at state = cond (is_on at state) 1 0
 -- a known caller does something else
 pub puts_known : (name : List ℕ) (was state : CallerState) (old new : BTreeMap (Vec ℕ) CallerState)
     → callers_of old.entries name ≡ Some was
-    → new.entries ≡ set_value (λ (k : Vec ℕ). is_eq (slice_cmp nat_cmp name k.items)) old.entries state
+    → new.entries
+    ≡ set_value (λ (k : Vec ℕ). is_eq (slice_cmp nat_cmp name k.items)) old.entries state
     → UpdatesBy name_cmp (λ k. slice_cmp nat_cmp name k.items) old new (Some state)
     → Puts old.entries name (Some was) state new.entries
 puts_known name was state old new is entries updates = record {
@@ -100,7 +101,8 @@ one_off at (caller.Calls on number) ne =
 one_off at _ ne = omega arith
 
 -- where no caller has one open, none counts
-none_open : (at : ℕ) (states : List (Vec ℕ × CallerState)) → IsStrictlySortedBy name_cmp (keys_of states)
+none_open : (at : ℕ) (states : List (Vec ℕ × CallerState))
+    → IsStrictlySortedBy name_cmp (keys_of states)
     → NoneCalls (callers_of states) at → open_on at states ≡ 0
 none_open at states ordered none =
     let each : All (λ state. one_on at state ≤ 0) (values_of states) =

@@ -150,8 +150,8 @@ pub orders_all : (services : List Service) (i : ℕ) (orders : List Order) → l
 orders_all services i orders h all =
     rw (take_all i services h) at all
 
--- Of the first services this is found before all else; where nothing is, and what was seen was never
--- cut, each has an order.
+-- Of the first services this is found before all else; where nothing is, and what was seen was
+-- never cut, each has an order.
 pub record OrdersTo (where_cut : Cut) (bytes : List ℕ) (services : List Service) (i : ℕ)
     (first : Option (ℕ × Verdict)) (orders : List Order) : Type 0 where
   pub found : IsFirstFound bytes (take i services) first

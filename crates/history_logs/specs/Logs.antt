@@ -157,7 +157,8 @@ pub record AreNeededLines (s : Service) (begin index refused : ℕ) (lines : Lis
 
 -- What is reported of the reply in the event of this index of the service, which no order explains:
 -- its words; the line and the text of the command of its call; the line in which the window begins,
--- and the lines of the calls that are needed; and each configuration to which what is above it leads.
+-- and the lines of the calls that are needed; and each configuration to which what is above it
+-- leads.
 pub record IsRefusalOf (bytes : List ℕ) (s : Service) (index : ℕ) (reported : Refusal) : Type 0
   where
     pub number : ℕ

@@ -72,7 +72,8 @@ fn put(
     name: &[u8],
     state: CallerState,
 ) -> Result<Option<CallerState>, AllocError>
-    ensures puts { IfOk result (λ was. Puts states.old.entries name.now was state states.new.entries) }
+    ensures puts { IfOk result (λ was. Puts states.old.entries name.now was state
+        states.new.entries) }
     ensures err { OnErr result (IsUnchanged states.old states.new) }
 {
     if let Some(known) = states.get_mut(name) {
