@@ -12,7 +12,7 @@ use Rattle.std.specs.declared.cmp.Ordering.{Ordering}
 use Rattle.std.proofs.lemmas.Bool.{cases_eq, cases_lt, eq-eqb, false_from_ne_true}
 use Rattle.std.proofs.lemmas.Bool.Decides.{eqb_tells}
 use Rattle.std.proofs.lemmas.Cmp.{eq_by_cmp_equiv, nat_list_cmp_total, on_total}
-use Rattle.std.proofs.lemmas.List.{get_or-set_same, get_or-set_other, get_or_past, length-map}
+use Rattle.std.proofs.lemmas.List.{get_or-set_same, get_or-set_other, get_or_default, get_or_past, length-map}
 use Rattle.std.proofs.lemmas.List.Elements.{Contains-get_or}
 use Rattle.std.proofs.lemmas.List.Sums.{count_by-le-length, sum_by-le}
 use Rattle.std.proofs.lemmas.Map.Entries.{sum_by-insert_entry, sum_by-set_value}
@@ -127,12 +127,6 @@ says_open counts states known at count ordered are same own = (
       omega (arith, open_called at states name number (rw same calls), own, are at),
 )
 
--- no more have a call open on a service than there are callers
-pub open_fit : (at : ℕ) (states : List (Vec ℕ × CallerState))
-    → open_on at states ≤ length states
-open_fit at states =
-    rw (length-map states (λ e. e.1)) at (count_by-le-length (is_on at) (values_of states))
-
 -- where one count changes, and is right, all are
 set_count : (counts : List ℕ) (at x : ℕ) (f : ℕ → ℕ) → at < length counts → f at ≡ x
     → ((k : ℕ) → k ≢ at → get_or counts k 0 ≡ f k) → (k : ℕ)
@@ -157,52 +151,47 @@ not_on : (k : ℕ) (was : Option CallerState) → MayBegin was → on_by k was �
 not_on k was (inl none) = rw none refl
 not_on k was (inr idle) = rw idle refl
 
--- a caller that had none open has one: so many have one open on its service
-pub more_open : (counts : List ℕ) (old new : List (Vec ℕ × CallerState)) (name : List ℕ)
-    (was : Option CallerState) (at number : ℕ) → AreOpen counts old → MayBegin (callers_of old name)
-    → Puts old name was (caller.Calls at number) new → open_on at new ≡ get_or counts at 0 + 1
-more_open counts old new name was at number are may puts =
-    omega (arith, not_on at was (rw (← puts.did) at may), on_own at number, puts.count at, are at)
-
--- and the counts stay right
-pub begun_open : (counts : List ℕ) (old new : List (Vec ℕ × CallerState)) (name : List ℕ)
-    (was : Option CallerState) (at number : ℕ) → AreOpen counts old → MayBegin (callers_of old name)
+-- a caller that had none open has one: one more is open on its service
+pub begun_open : (known counts : List ℕ) (old new : List (Vec ℕ × CallerState)) (name : List ℕ)
+    (was : Option CallerState) (at number d : ℕ) → AreOpen known old
+    → ((k : ℕ) → get_or counts k 0 ≡ get_or known k 0) → MayBegin (callers_of old name)
     → Puts old name was (caller.Calls at number) new → at < length counts
-    → AreOpen (slice_set counts at (get_or counts at 0 + 1)) new
-begun_open counts old new name was at number are may puts within =
-    set_count counts at (get_or counts at 0 + 1) (λ k. open_on k new) within
-    (more_open counts old new name was at number are may puts)
-    (λ k ne. omega (
-      arith,
-      not_on k was (rw (← puts.did) at may),
-      on_other at k number ne,
-      puts.count k,
-      are k,
-    ))
+    → d ≡ get_or counts at d
+    → (d + 1 ≤ length new) × AreOpen (slice_set counts at (d + 1)) new
+begun_open known counts old new name was at number d are same may puts within is =
+    let none : (k : ℕ) → on_by k was ≡ 0 = λ k. not_on k was (rw (← puts.did) at may) in
+    let own = is ∙ get_or_default counts at d 0 within in
+    let more : open_on at new ≡ d + 1 =
+    omega (arith, none at, on_own at number, puts.count at, are at, same at, own) in
+    let fit =
+    rw (length-map new (λ e. e.1)) at (count_by-le-length (is_on at) (values_of new)) in (
+      omega (arith, more, fit),
+      set_count counts at (d + 1) (λ k. open_on k new) within more
+          (λ k ne. omega (arith, none k, on_other at k number ne, puts.count k, are k, same k)),
+    )
 
 -- a caller that had one open has none: one less is open on its service
-pub less_open : (counts : List ℕ) (old new : List (Vec ℕ × CallerState)) (name : List ℕ)
-    (state : CallerState) (at number : ℕ) → AreOpen counts old → on_by at (Some state) ≡ 0
-    → Puts old name (Some (caller.Calls at number)) state new
-    → get_or counts at 0 ≡ open_on at new + 1
-less_open counts old new name state at number are none puts =
-    omega (arith, none, on_own at number, puts.count at, are at)
-
 pub ended_open : (counts : List ℕ) (old new : List (Vec ℕ × CallerState)) (name : List ℕ)
     (state : CallerState) (at number : ℕ) → AreOpen counts old
     → ((k : ℕ) → on_by k (Some state) ≡ 0)
     → Puts old name (Some (caller.Calls at number)) state new
-    → (at < length counts) × AreOpen (slice_set counts at (get_or counts at 0 - 1)) new
+    → (at < length counts)
+    × ((d : ℕ) → d ≡ get_or counts at d → (1 ≤ d) × AreOpen (slice_set counts at (d - 1)) new)
 ended_open counts old new name state at number are none puts =
-    let less = less_open counts old new name state at number are (none at) puts in
+    let less : get_or counts at 0 ≡ open_on at new + 1 =
+    omega (arith, none at, on_own at number, puts.count at, are at) in
     let within : at < length counts =
     elim (cases_lt at (length counts)) [
       | inl h ↦ h
       | inr h ↦ absurd (omega (arith, less, get_or_past counts at 0 h))
     ] in (
       within,
-      set_count counts at (get_or counts at 0 - 1) (λ k. open_on k new) within (omega (arith, less))
-          (λ k ne. omega (arith, none k, on_other at k number ne, puts.count k, are k)),
+      λ d is.
+          let own = is ∙ get_or_default counts at d 0 within in (
+            omega (arith, less, own),
+            set_count counts at (d - 1) (λ k. open_on k new) within (omega (arith, less, own))
+                (λ k ne. omega (arith, none k, on_other at k number ne, puts.count k, are k)),
+          ),
     )
 
 -- where a caller that had none open has none, the counts stay
@@ -212,8 +201,3 @@ pub same_open : (counts : List ℕ) (old new : List (Vec ℕ × CallerState)) (n
     → Puts old name was state new → AreOpen counts new
 same_open counts old new name state was are none before puts k =
     omega (arith, none k, before k, puts.count k, are k)
-
--- counts that are as they were
-pub same_counts : (old new : List ℕ) (states : List (Vec ℕ × CallerState))
-    → ((k : ℕ) → get_or new k 0 ≡ get_or old k 0) → AreOpen old states → AreOpen new states
-same_counts old new states same are at = same at ∙ are at
