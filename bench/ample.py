@@ -48,7 +48,8 @@ def scripts(size):
 
 def logs(size):
     """Logs by calls of one caller, by calls of four that overlap without a pause, since another one
-    is open from each round to the next, and by bytes of a line."""
+    is open from each round to the next, by callers and as many times that their service begins
+    anew, and by bytes of a line."""
     first = b"service event 7 5 0 0\nregister 1.0.0.1\n= handle 0 0\n"
     alone = (b"register 2.0.0.2\n= handle 1 %d\nderegister 1 %d\n= has-owners\n" % (n, n)
              for n in range(1, size // 2 + 1))
@@ -63,6 +64,8 @@ def logs(size):
         rounds += [b"%b< list %x\n" % (b"FE"[number % 2 :][:1], 2**96 + 1)] * (number > 0)
         rounds += [b"%b< has-owners\n" % caller for caller, _, _ in calls]
     yield f"{size // 9 * 9} calls of four callers", [], b"".join(rounds), 1
+    anew = (b"C%d> nodes\nC%d< list\nstate nodes 0\n" % (n, n) for n in range(size // 9))
+    yield f"{size // 9} callers and as many new services", [], SERVICE + b"".join(anew), 1
     yield f"a note of {size} bytes", [], SERVICE + b"#" * size + b"\n", 1
 
 

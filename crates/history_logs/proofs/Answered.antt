@@ -7,7 +7,7 @@ use Rattle.history_logs.specs.EventLines.{IsAnsweredIn}
 use Rattle.history_logs.specs.Reading.{HasRead}
 use Rattle.history_logs.specs.Reading.HasRead.{nothing as none_read, note as note_read, line as line_read}
 use Rattle.history_logs.specs.declared.logs.callers.CallerState.TheVariants as caller
-use Rattle.history_logs.proofs.Commands.{note_or_reply_more, own_command}
+use Rattle.history_logs.proofs.LinesAt.{note_or_reply_more, own_command}
 use Rattle.history_logs.proofs.AtIndex.{all_get, get_last, get_left, get_push, get_within}
 use Rattle.history_logs.proofs.Kept.{kept_new, kept_step, open_at}
 use Rattle.history_logs.proofs.Orderly.{both, open_new}

@@ -1,10 +1,112 @@
--- Calls that are answered.
-use Rattle.history_logs.proofs.Words.{End, Event, Handle, Judged, List, None, Option, SeenReply, Service, Some, [], added_by, ap, arith, calls_answered, calls_shown, changed, drop, forgetting, forgotten, get_or, get_or_past, given_by, given_in, judged_answered, length, length-replicate, option_and_then, refl, replicate, role_added, shown, slice_get, slice_get_read, start_of, stopped, suc, sym, with_end, zero, ℕ, ◌++◌, ◌+◌, ◌-◌, ◌<◌, ◌∙◌, ◌∷◌, ◌≡◌, ◌≤◌}
+-- Calls that are answered, and calls of which the first ones are forgotten.
+use Rattle.history_logs.proofs.Words.{End, Event, Handle, HasHandles, Judged, List, NamedCommand, None, Option, SeenReply, Service, Some, Watched, WindowStep, [], added_by, ap, arith, called, calls_answered, calls_shown, changed, drop, forgetting, forgotten, get_or, get_or_past, given_by, given_in, judged_answered, length, length-append, length-replicate, length-take-le, numbered, option_and_then, refl, replicate, role_added, shown, slice_get, slice_get_read, slice_set, start_of, stopped, suc, sym, take, take-append-drop, with_alone, with_end, with_over, zero, ℕ, ◌++◌, ◌+◌, ◌-◌, ◌<◌, ◌↔◌, ◌∙◌, ◌∷◌, ◌≡◌, ◌≤◌}
+use Rattle.std.proofs.Math.Seq.{set-append_seam, drop-append-add}
+use Rattle.history_logs.specs.Seen.{with_begun, calls_shown_from}
 use Rattle.std.proofs.Common.{set}
-use Rattle.std.proofs.Math.Seq.{drop-append-add}
-use Rattle.history_logs.specs.Seen.{calls_shown_from}
-use Rattle.history_logs.proofs.Forgotten.{get_kept}
+use Rattle.history_logs.proofs.AtIndex.{get_last}
 use Rattle.history_logs.proofs.Orderly.{length_changed}
+
+-- a command is no weak listing that stops
+pub called_stops : (s : Service) (c : NamedCommand) → stopped (called s c) ≡ None
+called_stops s (numbered c) = refl
+called_stops s _ = refl
+
+changed_last : (f : Judged → Judged) (calls : List Judged) (c : Judged)
+    → changed f (calls ++ c ∷ []) (length calls) ≡ calls ++ f c ∷ []
+changed_last f [] c = refl
+changed_last f (x ∷ calls) c = ap (λ (l : List Judged). x ∷ l) (changed_last f calls c)
+
+module _ (s : Service) (c : Judged) (r : SeenReply) (k : ℕ) (h : HasHandles s)
+    (none : stopped c ≡ None)
+  where
+    calls_alone : calls_answered (s.calls ++ c ∷ []) (length s.calls) r
+        ≡ s.calls ++ judged_answered c r ∷ []
+    calls_alone =
+        ap (λ (o : Option ℕ). changed (λ x. judged_answered x r)
+        (calls_shown (s.calls ++ c ∷ []) o r) (length s.calls))
+        (ap (option_and_then stopped) (get_last s.calls c (length s.calls) refl) ∙ none)
+        ∙ changed_last (λ x. judged_answered x r) s.calls c
+
+    given_alone : slice_set (s.given ++ None ∷ []) (length s.calls)
+        (given_in s.line (added_by (slice_get (s.calls ++ c ∷ []) (length s.calls))) r)
+        ≡ s.given ++ given_in s.line (role_added c) r ∷ []
+    given_alone =
+        rw (get_last s.calls c (length s.calls) refl, ← h.given)
+        (set-append_seam s.given None [] (given_in s.line (role_added c) r))
+
+    alone_is : (made : Judged) (gives : Option Handle) → made ≡ judged_answered c r
+        → gives ≡ given_in s.line (role_added c) r
+        → with_over (with_begun s made gives k) (length s.calls) k ≡ with_alone s c r k
+    alone_is made gives seen is = rw (seen, is, calls_alone, given_alone) refl
+
+    -- a call that begins and is answered in one line
+    pub alone_made : (mid new : Service) (made : Judged) (gives : Option Handle) (number : ℕ)
+        → made ≡ judged_answered c r → gives ≡ given_in s.line (role_added c) r
+        → mid ≡ with_begun s made gives k → number ≡ length s.calls → new ≡ with_over mid number k
+        → new ≡ with_alone s c r k
+    alone_made mid new made gives number seen is begun same over =
+        over ∙ (ap (λ (x : Service). with_over x number k) begun
+        ∙ (ap (λ n. with_over (with_begun s made gives k) n k) same
+        ∙ alone_is made gives seen is))
+
+pub get_forgotten : {X : Type 0} (first : ℕ) (d : X) (xs : List X) (n : ℕ) → first ≤ n
+    → slice_get (replicate first d ++ drop first xs) n ≡ slice_get xs n
+get_forgotten zero d [] n h = refl
+get_forgotten zero d (x ∷ xs) n h = refl
+get_forgotten (suc first) d xs zero h = absurd (omega arith)
+get_forgotten (suc first) d [] (suc n) h = none first n (omega arith)
+  where
+    none : (k m : ℕ) → k ≤ m → slice_get (replicate k d ++ []) m ≡ None
+    none zero m h = refl
+    none (suc k) zero h = absurd (omega arith)
+    none (suc k) (suc m) h = none k m (omega arith)
+get_forgotten (suc first) d (x ∷ xs) (suc n) h = get_forgotten first d xs n (omega arith)
+
+pub length_forgotten : {X : Type 0} (first : ℕ) (d : X) (xs : List X) → first ≤ length xs
+    → length (replicate first d ++ drop first xs) ≡ length xs
+length_forgotten first d xs h =
+    omega (
+      arith,
+      length-append (replicate first d) (drop first xs),
+      length-replicate first d,
+      length-append (take first xs) (drop first xs),
+      ap length (take-append-drop first xs),
+      length-take-le first xs h,
+    )
+
+-- calls that are kept agree with those of the service
+pub get_kept : (first : ℕ) (calls : List Judged) (n : ℕ) → first ≤ n
+    → slice_get (replicate first forgotten ++ calls) n ≡ slice_get calls (n - first)
+get_kept zero calls n h =
+    let same : n - 0 ≡ n = omega arith in
+    ap (slice_get calls) (sym same)
+get_kept (suc first) calls zero h = absurd (omega arith)
+get_kept (suc first) calls (suc n) h =
+    let same : suc n - suc first ≡ n - first = omega arith in
+    get_kept first calls n (omega arith) ∙ ap (slice_get calls) (sym same)
+
+pub step_same : (first : ℕ) (calls final : List Judged) (n : ℕ) → first ≤ n
+    → slice_get (replicate first forgotten ++ calls) n ≡ slice_get final n
+    → (old new : Watched) → WindowStep first calls old n new ↔ WindowStep 0 final old n new
+step_same first calls final n h same old new =
+    let is = sym (get_kept first calls n h) ∙ same in (
+      λ w.
+          let at : w.1.0 ≡ n - first = omega (arith, w.1.1) in
+          let zero_at : n ≡ 0 + n = omega arith in (
+            w.0,
+            (n, zero_at, sym is ∙ (ap (slice_get calls) (sym at) ∙ w.1.2)),
+            w.2,
+          ),
+      λ w.
+          let at : w.1.0 ≡ n = omega (arith, w.1.1) in
+          let first_at : n ≡ first + (n - first) = omega arith in (
+            w.0,
+            (n - first, first_at, is ∙ (ap (slice_get final) (sym at) ∙ w.1.2)),
+            w.2,
+          ),
+    )
+
+-- calls of which the first ones agree
 
 pub changed_at : (f : Judged → Judged) (calls : List Judged) (number : ℕ) (c n : Judged)
     → c ≡ get_or calls number c → n ≡ f c → set calls number n ≡ changed f calls number

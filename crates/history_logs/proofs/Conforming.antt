@@ -233,7 +233,7 @@ module _ (bytes : List ℕ) (live : Log) (fronts : List (Option (Front Watched))
             (sym h.short.waits ∙ waits) (omega (arith, h.short.services.0))
 
         pub judged_short : AreRightShort live.services fronts
-            → Judged bytes (end_verdict live.services None)
+            → Judged bytes (end_verdict live.services)
         judged_short right =
             judged_conforms bytes h.log.services
             (sum_by (λ (s : Service). length s.commands) live.services) (services_in live.services)

@@ -4,12 +4,11 @@ use Rattle.iox2_dynamic.specs.Service as dynamic
 use Rattle.history_logs.specs.declared.logs.callers.CallerState.TheVariants as caller
 use Rattle.history_logs.specs.Reading.{StartsAnewAs}
 use Rattle.history_logs.specs.Shortened.{IsShortLog}
-use Rattle.history_logs.proofs.Alone.{called_stops}
+use Rattle.history_logs.proofs.Answering.{called_stops}
 use Rattle.history_logs.proofs.AtIndex.{all_get, all_of, get_push_at, get_same, get_within}
 use Rattle.history_logs.proofs.Kept.{open_at}
 use Rattle.history_logs.proofs.Orderly.{open_new}
-use Rattle.history_logs.proofs.Shortened.{kept_call, short_begin, short_end, short_over}
-use Rattle.history_logs.proofs.ShortServices.{same_call, short_begins, short_new, short_started, short_unseen}
+use Rattle.history_logs.proofs.Shortened.{kept_call, short_begin, short_end, short_over, same_call, short_begins, short_new, short_started, short_unseen}
 
 -- the service that is kept at an index
 pub found_at : (services live : List Service) (fronts : List (Option (Front Watched))) (at : ℕ)

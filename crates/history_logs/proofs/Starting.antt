@@ -1,9 +1,14 @@
--- What is given of services that were in use.
-use Rattle.history_logs.proofs.Words.{Bool, Does, Err, Expected, Gives, IfOk, IsNamed, IsTrue, List, Log, None, NoneCalls, Ok, Option, Result, Service, Some, Starts, State, [], ap, arith, cases_lt, false, get_or, get_or_default, given, inl, inr, length, nil_from_length, refl, same_Some, slice_get, slice_get_read, slice_get_within, slice_set, started, sym, true, unseen, ℕ, ◌++◌, ◌<◌, ◌↔◌, ◌∙◌, ◌∷◌, ◌≡◌, ◌≢◌}
+-- What is given of services.
+use Rattle.history_logs.proofs.Words.{Bool, Does, Err, Expected, Gives, IfOk, IsNamed, IsTrue, List, Log, None, NoneCalls, Ok, Option, Result, Service, Some, Starts, State, [], ap, arith, cases_lt, false, get_or, get_or_default, given, inl, inr, length, nil_from_length, refl, same_Some, slice_get, slice_get_read, slice_get_within, slice_set, started, sym, true, unseen, ℕ, ◌++◌, ◌<◌, ◌↔◌, ◌∙◌, ◌∷◌, ◌≡◌, ◌≢◌, ◌⊎◌}
 use Rattle.iox2_dynamic.specs.Service as dynamic
-use Rattle.service_conformance.specs.Given.{Becomes}
+use Rattle.service_conformance.specs.Given.{Becomes, IsUnused, with_nodes, with_ports, with_used}
 use Rattle.history_logs.specs.declared.logs.verdict.Expected.TheVariants as expected
 use Rattle.history_logs.specs.Good.{GivesAnew}
+use Rattle.iox2_container.specs.State.{RegistryState}
+use Rattle.log_lines.specs.States.State.{nodes, ports, entry}
+use Rattle.service_conformance.specs.Sides.{ports_at}
+use Rattle.service_conformance.proofs.Given.{same_ports}
+use Rattle.history_logs.specs.Laws.{EmptyStatesChangeNothing, IsAnew, IsEmptyState}
 use Rattle.history_logs.proofs.Named.{set_back}
 
 -- what becomes of the start becomes of the service
@@ -109,3 +114,45 @@ pub ok_below : {E : Type 0} (result : Result (Option Expected) E) (old new : Log
 ok_below (Ok found) old new number what at s none named some h =
     λ j. gives_below old new j number what at s found none named some (h s named.there)
 ok_below (Err e) old new number what at s none named some h = h
+
+unchanged : {T : Type 0} (r : RegistryState T) (used : ℕ) (locked : Bool) → IsUnused r → used ≡ 0
+    → locked ≡ false → with_used r used locked ≡ r
+unchanged r used locked u none free =
+    ap (λ n. with_used r n locked) (none ∙ sym u.used)
+    ∙ ap (with_used r r.used) (free ∙ sym u.locked)
+
+start_same : (old : dynamic.Service) (what : State) (start : dynamic.Service) → IsEmptyState what
+    → Gives old what start → start ≡ old
+start_same old (nodes used locked) start none g =
+    g.1 ∙ ap (with_nodes old) (unchanged old.nodes.registry used locked g.0 none.0 none.1)
+start_same old (ports r used) start none g =
+    g.3
+    ∙ (ap (with_ports g.0 old) (unchanged (ports_at old g.0).registry used false g.2 none refl)
+    ∙ same_ports old g.0)
+start_same old (entry slot ticket c) start none g = absurd none
+
+pub empty_none : EmptyStatesChangeNothing
+empty_none old new k number what none g =
+    elim g.5 as (λ _. (new ≡ old) ⊎ IsAnew old number new) [
+      | inl first ↦
+          let same : started g.1 g.2 ≡ g.1 =
+          ap (started g.1) (start_same g.1.start what g.2 none first.0.1) in
+          inl (first.1
+          ∙ ap (λ (l : List Service). record {
+            services = l;
+            callers = old.callers;
+            waits = old.waits;
+          })
+          (ap (slice_set old.services g.0) same ∙ set_back old.services g.0 g.1 g.4.there))
+      | inr anew ↦
+          let new_one = unseen g.1.line in
+          let same : started new_one g.2 ≡ new_one =
+          ap (started new_one) (start_same new_one.start what g.2 none anew.0.2) in
+          inr (
+            g.0,
+            g.1,
+            g.4,
+            anew.0.0,
+            anew.1 ∙ ap (λ (x : Service). record old { services = old.services ++ x ∷ [] }) same,
+          )
+    ]

@@ -8,7 +8,8 @@ pub use Rattle.histories.specs.declared.event.Event.{Event}
 pub use Rattle.histories.specs.declared.event.Event.TheVariants.{Begin, Crash, End}
 pub use Rattle.histories.specs.declared.front.Front.{Front}
 pub use Rattle.history_logs.specs.EventLines.{Answers, HasCommand, HasEventLines, IsCommandOf, IsLineAt, IsSaidIn}
-pub use Rattle.history_logs.specs.Fields.{AreNumbers, IsOn, callers_of, log_of, numbers_in, waits_in}
+pub use Rattle.history_logs.specs.CallerFields.{callers_of}
+pub use Rattle.history_logs.specs.Fields.{AreNumbers, log_of, numbers_in, waits_in}
 pub use Rattle.history_logs.specs.Good.{HasNoNext, IsAbove, IsKept, IsOrderly, IsReadTo, Starts, Takes, TakesLine, TakesNext, is_service}
 pub use Rattle.history_logs.specs.Judging.{AreJudged, AreLines, AreLinesTo, IsFirstFound, IsFoundOf, IsNotBefore, IsRefusedIn, comes_before, earlier, end_verdict}
 pub use Rattle.history_logs.specs.Logs.{AreNeededLines, BeginsAt, IsReported, IsRightAbove, IsSeenRightly, NoneRefused, NoneRefusedAbove, StepOf, StopsIn, calls_in, line_begun, news, services_in}

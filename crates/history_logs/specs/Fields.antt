@@ -1,25 +1,14 @@
 -- What the fields of what is read tell.
-use Rattle.std.specs.BTreeMap.{BTreeMap, get, get_by}
-use Rattle.std.specs.Cmp.Lexicographic.{slice_cmp}
+use Rattle.std.specs.BTreeMap.{BTreeMap, get}
 use Rattle.std.specs.Option.{option_map, option_or}
 use Rattle.std.specs.Ordering.{nat_cmp}
 use Rattle.std.specs.Prelude.{◌≡◌, ◌==◌, ℕ, suc, List, [], ◌∷◌, Option, Some, None, if◌then◌else◌, map}
 use Rattle.log_lines.specs.declared.command.LogCommand.{LogCommand}
 use Rattle.log_lines.specs.Commands.{NamedCommand, named}
-use Rattle.history_logs.specs.declared.logs.callers.CallerState.{CallerState}
-use Rattle.history_logs.specs.declared.logs.callers.CallerState.TheVariants as caller
-use Rattle.history_logs.specs.declared.logs.callers.Callers.{Callers}
 use Rattle.history_logs.specs.declared.logs.reading.Reading.{Reading}
+use Rattle.history_logs.specs.CallerFields.{callers_of}
 use Rattle.history_logs.specs.Reading.{IsSane, Log}
 use Rattle.history_logs.specs.Seen.{Service}
-
--- what the callers do that they tell
-abbrev pub callers_of : Callers → List ℕ → Option CallerState
-callers_of c name = get_by (λ k. slice_cmp nat_cmp name k.items) c.states
-
--- a caller that does this has a call open on the service at the index
-abbrev pub IsOn : ℕ → CallerState → Type 0
-IsOn at state = (number : ℕ) × (state ≡ caller.Calls at number)
 
 -- the command that waits for its reply, with the index of its service
 abbrev pub waits_in : Option (ℕ × LogCommand) → Option (ℕ × NamedCommand)

@@ -1,9 +1,9 @@
 -- What is found of a service of a log, and what is reported of it.
-use Rattle.std.specs.Prelude.{◌≡◌, ◌&&◌, ◌||◌, ℕ, ◌<◌, List, All, Bool, Contains, Option, Some, None, Result, Ok, Err, false, if◌then◌else◌, length, ltb, not, slice_get, sum_by, take, true}
+use Rattle.std.specs.Prelude.{◌≡◌, ◌&&◌, ◌||◌, ℕ, ◌<◌, List, All, Bool, Contains, Option, Some, None, Result, Ok, Err, false, if◌then◌else◌, length, ltb, not, slice_get, sum_by, true}
 use Rattle.std.specs.List.{AllZip}
 use Rattle.std.specs.Int.{bit_at}
 use Rattle.histories.specs.declared.event.Event.{Event}
-use Rattle.histories.specs.declared.event.Event.TheVariants.{Begin, End}
+use Rattle.histories.specs.declared.event.Event.TheVariants.{Begin}
 use Rattle.histories.specs.Frontier.{HasSlot, IsFrontOf}
 use Rattle.histories.specs.Histories.{StandsAt}
 use Rattle.histories.specs.declared.window.Cut.{Cut}
@@ -12,16 +12,12 @@ use Rattle.histories.specs.declared.window.Verdict.{Verdict as FoundOf}
 use Rattle.histories.specs.declared.window.Verdict.TheVariants as found
 use Rattle.histories.specs.declared.window.Stop.TheVariants as stop
 use Rattle.histories.specs.declared.window.Window.{Window}
-use Rattle.histories.specs.Windows.{IsWindowOf}
-use Rattle.service_conformance.specs.Judged.{Judged, words_of}
 use Rattle.service_conformance.specs.Looks.{Watched}
-use Rattle.history_logs.specs.declared.logs.verdict.Expected.{Expected}
 use Rattle.history_logs.specs.declared.logs.verdict.Order.{Order}
 use Rattle.history_logs.specs.declared.logs.verdict.Refusal.{Refusal}
 use Rattle.history_logs.specs.declared.logs.verdict.Verdict.{Verdict}
 use Rattle.history_logs.specs.declared.logs.verdict.Verdict.TheVariants as verdict
-use Rattle.history_logs.specs.EventLines.{IsCommandOf}
-use Rattle.history_logs.specs.Logs.{AreNeededLines, BeginsIn, IsReported, IsRightAbove, IsSeenRightly, NoneRefused, NoneRefusedAbove, StepOf, StopsIn, news, services_in}
+use Rattle.history_logs.specs.Logs.{IsRefusalOf, IsRightAbove, IsSeenRightly, NoneRefused, NoneRefusedAbove, StepOf, StopsIn, news, services_in}
 use Rattle.history_logs.specs.Orders.{IsOrderOf}
 use Rattle.history_logs.specs.Seen.{Service}
 
@@ -63,20 +59,7 @@ pub record IsRefusedIn (bytes : List ℕ) (s : Service) (k : ℕ) (reported : Re
   pub index : ℕ
   pub stops : StopsIn s k index stop.Refused
   pub line : reported.line ≡ k
-  pub number : ℕ
-  pub ended : StandsAt s.events index (End number)
-  pub call : Judged
-  pub called : slice_get s.calls number ≡ Some call
-  pub words : words_of call ≡ Some reported.words.items
-  pub begin : ℕ
-  pub begun : BeginsIn s number begin
-  pub command : IsCommandOf bytes begin reported.call reported.command.items
-  pub window : Window Watched
-  pub is_window : IsWindowOf (StepOf s) (news s) (take index s.events) window
-  pub begins : slice_get s.event_lines window.begin ≡ Some reported.window
-  pub needed : AreNeededLines s window.begin index number reported.needed.items
-  pub configurations : AllZip (IsReported s call window.front.slots.items)
-      window.front.configs.items reported.configurations.items
+  pub report : IsRefusalOf bytes s index reported
 
 -- this is found of the service in this line
 abbrev pub IsFound : List ℕ → Service → ℕ → Verdict → Type 0
@@ -151,8 +134,7 @@ abbrev pub AreJudged : List ℕ → List Service → Option Verdict → Type 0
 AreJudged bytes services None = All IsSeenRightly services
 AreJudged bytes services (Some v) = (k : ℕ) × IsFirstFound bytes services (Some (k, v))
 
--- the verdict where orders explain all that was seen of the services
-abbrev pub end_verdict : List Service → Option (ℕ × Expected) → Verdict
-end_verdict services None =
+-- the verdict where orders explain all that was seen of the services, and all lines are good
+abbrev pub end_verdict : List Service → Verdict
+end_verdict services =
     verdict.Conforms (sum_by (λ (s : Service). length s.commands) services) (services_in services)
-end_verdict services (Some bad) = verdict.BadLine bad.0 bad.1

@@ -155,27 +155,33 @@ pub record AreNeededLines (s : Service) (begin index refused : ℕ) (lines : Lis
   pub is_kept : kept refused ≡ true
   pub begin_in : lines ≡ lines_begun s.begins (events_of kept (events_from s begin index))
 
--- What is reported of a reply that no order explains: its line and its words; the line and the text
--- of the command of its call; the line in which the window begins, and the lines of the calls that
--- are needed; and each configuration to which what is above it leads.
+-- What is reported of the reply in the event of this index of the service, which no order explains:
+-- its words; the line and the text of the command of its call; the line in which the window begins,
+-- and the lines of the calls that are needed; and each configuration to which what is above it
+-- leads.
+pub record IsRefusalOf (bytes : List ℕ) (s : Service) (index : ℕ) (reported : Refusal) : Type 0
+  where
+    pub number : ℕ
+    pub ended : StandsAt s.events index (End number)
+    pub call : Call
+    pub called : slice_get s.calls number ≡ Some call
+    pub words : words_of call ≡ Some reported.words.items
+    pub begin : ℕ
+    pub begun : BeginsIn s number begin
+    pub command : IsCommandOf bytes begin reported.call reported.command.items
+    pub window : Window Watched
+    pub is_window : IsWindowOf (StepOf s) (news s) (take index s.events) window
+    pub begins : slice_get s.event_lines window.begin ≡ Some reported.window
+    pub needed : AreNeededLines s window.begin index number reported.needed.items
+    pub configurations : AllZip (IsReported s call window.front.slots.items)
+        window.front.configs.items reported.configurations.items
+
+-- a reply is refused in the line that is reported, and this is what is reported of it
 pub record IsRefusal (bytes : List ℕ) (services : List Service) (reported : Refusal) : Type 0 where
   pub s : Service
   pub index : ℕ
   pub stops : RefusesAt services reported.line s index
-  pub number : ℕ
-  pub ended : StandsAt s.events index (End number)
-  pub call : Call
-  pub called : slice_get s.calls number ≡ Some call
-  pub words : words_of call ≡ Some reported.words.items
-  pub begin : ℕ
-  pub begun : BeginsIn s number begin
-  pub command : IsCommandOf bytes begin reported.call reported.command.items
-  pub window : Window Watched
-  pub is_window : IsWindowOf (StepOf s) (news s) (take index s.events) window
-  pub begins : slice_get s.event_lines window.begin ≡ Some reported.window
-  pub needed : AreNeededLines s window.begin index number reported.needed.items
-  pub configurations : AllZip (IsReported s call window.front.slots.items)
-      window.front.configs.items reported.configurations.items
+  pub report : IsRefusalOf bytes s index reported
 
 -- where the log ends after its good lines, something is missing
 abbrev pub IsMissing : Log → Expected → Type 0

@@ -24,9 +24,9 @@ mod streams;
 mod verdict;
 
 use conforming::find_conforming;
-use judging::judge_services;
+use histories::Cut;
 pub use log_lines::LogForm;
-use ordering::order_services;
+use ordering::judge_services;
 pub use progress::{Counts, NoProgress, Progress};
 use reading::{Reading, read_log};
 use report::{append_orders, append_report};
@@ -46,35 +46,39 @@ fn count_calls(services: &[LogService]) -> usize
         .sum()
 }
 
-/// The verdict where orders explain all that was seen of the services.
-fn end_verdict(reading: &Reading, bad: Option<(usize, Expected)>) -> Verdict
+/// The verdict where orders explain all that was seen of the services, and all lines are good.
+fn end_verdict(reading: &Reading) -> Verdict
     requires few { sum_by (λ (s : Service). length s.commands) reading.now.services.items
         < 2 ^ 64 }
     requires numbers { AreNumbers reading.now.numbers reading.now.services.items }
-    ensures { result ≡ end_verdict reading.now.services.items bad }
+    ensures { result ≡ end_verdict reading.now.services.items }
 {
-    match bad {
-        Some((line, expected)) => Verdict::BadLine(line, expected),
-        None => Verdict::Conforms(count_calls(&reading.services), reading.count_services()),
-    }
+    Verdict::Conforms(count_calls(&reading.services), reading.count_services())
 }
 
-/// Judges what was read of a log.
+/// Judges what was read of a log. Where what was seen is never cut, the orders come with the
+/// verdict if the log conforms.
 fn judge(
     alloc: Global,
     log: &[u8],
     reading: &Reading,
     bad: Option<(usize, Expected)>,
-) -> Result<Verdict, AllocError>
+    cut: Cut,
+) -> Result<(Verdict, Vec<Order>), AllocError>
     requires read { IsReadTo log.now reading.now.services.items bad }
     requires numbers { AreNumbers reading.now.numbers reading.now.services.items }
-    ensures { IfOk result (Judged log.now) }
+    ensures judged { IfOk result (λ found. Judged log.now found.0) }
+    ensures orders { cut ≡ Cut.Never
+        → IfOk result (λ found. HasOrders log.now found.0 found.1.items) }
 {
     // For the proof: no more calls were read than the log has bytes.
     let _fits = log.len();
-    match judge_services(alloc, log, &reading.services)? {
-        Some(verdict) => Ok(verdict),
-        None => Ok(end_verdict(reading, bad)),
+    match judge_services(alloc, log, &reading.services, cut)? {
+        Ok(orders) => match bad {
+            Some((line, expected)) => Ok((Verdict::BadLine(line, expected), Vec::new(alloc))),
+            None => Ok((end_verdict(reading), orders)),
+        },
+        Err(verdict) => Ok((verdict, Vec::new(alloc))),
     }
 }
 
@@ -91,7 +95,8 @@ fn check_with<P: Progress>(
         return Ok(verdict);
     }
     let (reading, bad) = read_log(alloc, log, progress)?;
-    judge(alloc, log, &reading, bad)
+    let (verdict, _orders) = judge(alloc, log, &reading, bad, Cut::WhereQuiet)?;
+    Ok(verdict)
 }
 
 /// Judges a log of services.
@@ -155,29 +160,6 @@ pub fn report_log(alloc: Global, log: &[u8]) -> Result<(Verdict, Vec<u8>), Alloc
     report_with(alloc, log, &mut NoProgress)
 }
 
-/// Judges what was read of a log, with the orders where it conforms.
-fn order_read(
-    alloc: Global,
-    log: &[u8],
-    reading: &Reading,
-    bad: Option<(usize, Expected)>,
-) -> Result<(Verdict, Vec<Order>), AllocError>
-    requires read { IsReadTo log.now reading.now.services.items bad }
-    requires numbers { AreNumbers reading.now.numbers reading.now.services.items }
-    ensures judged { IfOk result (λ found. Judged log.now found.0) }
-    ensures orders { IfOk result (λ found. HasOrders log.now found.0 found.1.items) }
-{
-    // For the proof: no more calls were read than the log has bytes.
-    let _fits = log.len();
-    match order_services(alloc, log, &reading.services)? {
-        Ok(orders) => match bad {
-            Some((line, expected)) => Ok((Verdict::BadLine(line, expected), Vec::new(alloc))),
-            None => Ok((end_verdict(reading, None), orders)),
-        },
-        Err(verdict) => Ok((verdict, Vec::new(alloc))),
-    }
-}
-
 /// Judges a log, as `check_log` does. Where it conforms, there is an order for each service, by
 /// their lines, and for each time that one begins anew. It is one of those that explain what was
 /// seen of it. Else there is none.
@@ -189,7 +171,7 @@ pub fn order_log(alloc: Global, log: &[u8]) -> Result<(Verdict, Vec<Order>), All
     ensures orders { IfOk result (λ found. HasOrders log.now found.0 found.1.items) }
 {
     let (reading, bad) = read_log(alloc, log, &mut NoProgress)?;
-    order_read(alloc, log, &reading, bad)
+    judge(alloc, log, &reading, bad, Cut::Never)
 }
 
 /// Judges what was read of a log: the verdict, and the text that reports it with the orders.
@@ -204,7 +186,7 @@ fn witness_read(
     ensures judged { IfOk result (λ found. Judged log.now found.0) }
     ensures text { IfOk result (λ found. IsWitness log.now found.0 found.1.items) }
 {
-    let (verdict, orders) = order_read(alloc, log, reading, bad)?;
+    let (verdict, orders) = judge(alloc, log, reading, bad, Cut::Never)?;
     let mut text = Vec::new(alloc);
     append_report(&verdict, &mut text)?;
     append_orders(&orders, &mut text)?;

@@ -1,11 +1,13 @@
 //! The callers of a log.
-ghost use Rattle.std.specs.Prelude.{◌≡◌, ◌↔◌, ℕ, List, None, IfNone, IfSome, IsFalse, IsTrue, OnOk};
-ghost use Rattle.history_logs.specs.Fields.{IsOn, callers_of};
+ghost use Rattle.std.specs.BTreeMap.{IsUnchanged};
+ghost use Rattle.std.specs.Prelude.{◌≡◌, ◌<◌, ℕ, List, None, Some, IfNone, IfOk, IfSome, IsFalse, IsTrue, OnErr, OnOk, get_or, length};
+ghost use Rattle.history_logs.specs.CallerFields.{Puts, callers_of, on_by};
 ghost use Rattle.history_logs.specs.Reading.{MayBegin, NoneCalls, RefusesBegin, Sets};
 
 use super::verdict::Expected;
 use std::alloc::{AllocError, Global};
 use std::collections::BTreeMap;
+use std::marker::Model;
 
 /// What a caller does.
 #[derive(Clone, Copy, Debug, PartialEq, Eq)]
@@ -21,17 +23,67 @@ pub(super) enum CallerState {
 /// The callers that have begun calls, by their names.
 #[derive(Drop)]
 pub(super) struct Callers {
-    pub(super) states: BTreeMap<Vec<u8>, CallerState>,
+    states: BTreeMap<Vec<u8>, CallerState>,
+    /// How many of them have a call open on the service at each index, or none behind these.
+    /// Without the counts a line that begins a service anew would look at each caller.
+    counts: Vec<usize>,
 }
 
-/// Whether a call on the service at this index is open.
-fn is_on(state: CallerState, at: usize) -> bool
-    ensures { IsTrue result ↔ IsOn at state }
+impl Model for Callers {
+    ghost use Rattle.std.specs.Global.{Vec};
+    ghost use Rattle.std.specs.Prelude.{ℕ, List};
+    ghost use Rattle.history_logs.specs.declared.logs.callers.CallerState.{CallerState};
+    ghost use Rattle.history_logs.specs.CallerFields.{AreOpen};
+
+    ghost Value = { List (Vec ℕ × CallerState) };
+
+    ghost view = { λ c. c.states.entries };
+
+    ghost invariant = { λ c. AreOpen c.counts.items c.states.entries };
+}
+
+/// The index of the service on which a caller that does this has a call open, if it has one.
+fn service_of(state: Option<CallerState>) -> Option<usize>
+    ensures none { IfNone result ((at : ℕ) → on_by at state ≡ 0) }
+    ensures some { IfSome result (λ at. (number : ℕ)
+        × (state ≡ Some (CallerState.Calls at number))) }
 {
     match state {
-        CallerState::Calls(on, _) => on == at,
-        _ => false,
+        None | Some(CallerState::Idle | CallerState::Dead) => None,
+        Some(CallerState::Calls(at, _)) => Some(at),
     }
+}
+
+/// There is a count for the service at this index.
+fn make_room(counts: &mut Vec<usize>, at: usize) -> Result<(), AllocError>
+    ensures room { OnOk result (at < length counts.new.items) }
+    ensures same { (k : ℕ) → get_or counts.new.items k 0 ≡ get_or counts.old.items k 0 }
+{
+    while counts.len() <= at {
+        counts.push(0)?;
+    }
+    Ok(())
+}
+
+/// The caller does this from now on. Returns what it did.
+fn put(
+    alloc: Global,
+    states: &mut BTreeMap<Vec<u8>, CallerState>,
+    name: &[u8],
+    state: CallerState,
+) -> Result<Option<CallerState>, AllocError>
+    ensures puts { IfOk result (λ was. Puts states.old.entries name.now was state
+        states.new.entries) }
+    ensures err { OnErr result (IsUnchanged states.old states.new) }
+{
+    if let Some(known) = states.get_mut(name) {
+        let was = *known;
+        *known = state;
+        return Ok(Some(was));
+    }
+    let name = Vec::from_slice(alloc, name)?;
+    states.insert(name, state)?;
+    Ok(None)
 }
 
 impl Callers {
@@ -41,6 +93,7 @@ impl Callers {
     {
         Callers {
             states: BTreeMap::new(alloc),
+            counts: Vec::new(alloc),
         }
     }
 
@@ -56,25 +109,54 @@ impl Callers {
         ensures yes { IsTrue result → ¬ (NoneCalls (callers_of self.now) at) }
         ensures no { IsFalse result → NoneCalls (callers_of self.now) at }
     {
-        self.states.values().any(|state| is_on(*state, at))
+        // For the proof: no two callers have one name.
+        let _ordered = self.states.len();
+        match self.counts.get(at) {
+            Some(count) => *count > 0,
+            None => false,
+        }
     }
 
-    /// The caller does this from now on.
+    /// The caller has the call of this number open from now on, on the service at this index.
+    pub(super) fn begin(
+        &mut self,
+        alloc: Global,
+        name: &[u8],
+        at: usize,
+        number: usize,
+    ) -> Result<(), AllocError>
+        requires { MayBegin (callers_of self.old name.now) }
+        ensures { OnOk result (Sets (callers_of self.old) name.now (CallerState.Calls at number)
+            (callers_of self.new)) }
+    {
+        make_room(&mut self.counts, at)?;
+        put(
+            alloc,
+            &mut self.states,
+            name,
+            CallerState::Calls(at, number),
+        )?;
+        // For the proof: no more calls are open than there are callers.
+        let _few = self.states.len();
+        self.counts[at] += 1;
+        Ok(())
+    }
+
+    /// The caller does this from now on, and has no call open.
     pub(super) fn set(
         &mut self,
         alloc: Global,
         name: &[u8],
         state: CallerState,
     ) -> Result<(), AllocError>
-        ensures { OnOk result
-            (Sets (callers_of self.old) name.now state (callers_of self.new)) }
+        requires { (at : ℕ) → on_by at (Some state) ≡ 0 }
+        ensures { OnOk result (Sets (callers_of self.old) name.now state (callers_of self.new)) }
     {
-        if let Some(known) = self.states.get_mut(name) {
-            *known = state;
+        let was = put(alloc, &mut self.states, name, state)?;
+        let Some(at) = service_of(was) else {
             return Ok(());
-        }
-        let name = Vec::from_slice(alloc, name)?;
-        self.states.insert(name, state)?;
+        };
+        self.counts[at] -= 1;
         Ok(())
     }
 }

@@ -144,5 +144,5 @@ pub(super) fn find_conforming<P: Progress>(
     if !are_explained(alloc, &reading.services, &mut fronts)? {
         return Ok(None);
     }
-    Ok(Some(end_verdict(&reading, None)))
+    Ok(Some(end_verdict(&reading)))
 }

@@ -1,6 +1,6 @@
 //! Judging what was seen of a service.
 ghost use Rattle.std.specs.Prelude.{◌≡◌, ◌+◌, ◌<◌, ◌≤◌, ◌↔◌, ℕ, zero, suc, IfOk, IsTrue, List, OnOk};
-ghost use Rattle.std.specs.Prelude.{All, Some, length, slice_get, take};
+ghost use Rattle.std.specs.Prelude.{Some, length, slice_get, take};
 ghost use Rattle.std.specs.Int.{bit_at};
 ghost use Rattle.std.specs.List.{AllZip};
 ghost use Rattle.histories.specs.declared.window.Stop.TheVariants as stop;
@@ -10,8 +10,8 @@ ghost use Rattle.histories.specs.Windows.{IsStop, IsVerdict, IsWindowOf};
 ghost use Rattle.log_lines.specs.Lines.{IsLine, Line, line_seen, line_text};
 ghost use Rattle.service_conformance.specs.Judged.{Judged};
 ghost use Rattle.history_logs.specs.Good.{IsOrderly};
-ghost use Rattle.history_logs.specs.Judging.{AreBelow, AreJudged, AreLines, AreLinesTo, Explores};
-ghost use Rattle.history_logs.specs.Judging.{IsFoundOf, IsRefusedIn, IsReportOf};
+ghost use Rattle.history_logs.specs.Judging.{AreBelow, AreLines, AreLinesTo, Explores};
+ghost use Rattle.history_logs.specs.Judging.{IsRefusedIn, IsReportOf};
 ghost use Rattle.history_logs.specs.Judging.{comes_before, earlier, is_refused};
 ghost use Rattle.history_logs.specs.Logs.{IsReported, StepOf, news};
 ghost use Rattle.history_logs.specs.EventLines.{Answers, HasEventLines, IsCommandOf, IsLineAt, IsNoteOrReply};
@@ -317,23 +317,6 @@ pub(super) fn explore(
     reported_of(alloc, log, service, found)
 }
 
-/// Judges what was seen of a service. Returns what was found, with its line, unless orders of the
-/// calls explain all.
-fn judge_service(
-    alloc: Global,
-    log: &[u8],
-    service: &LogService,
-) -> Result<Option<(usize, Verdict)>, AllocError>
-    requires orderly { IsOrderly service.now }
-    requires located { HasEventLines log.now service.now }
-    ensures { IfOk result (IsFoundOf log.now service.now) }
-{
-    match explore(alloc, log, service, Cut::WhereQuiet)? {
-        Ok(_) => Ok(None),
-        Err(found) => Ok(Some(found)),
-    }
-}
-
 /// Whether a reply is refused.
 fn is_refused(verdict: &Verdict) -> bool
     ensures { result ≡ is_refused verdict.now }
@@ -370,26 +353,5 @@ pub(super) fn earlier(
                 Some(one)
             }
         }
-    }
-}
-
-/// Judges what was seen of each service: what was found before all else, unless orders explain
-/// all.
-pub(super) fn judge_services(
-    alloc: Global,
-    log: &[u8],
-    services: &[LogService],
-) -> Result<Option<Verdict>, AllocError>
-    requires orderly { All IsOrderly services.now }
-    requires located { All (HasEventLines log.now) services.now }
-    ensures { IfOk result (AreJudged log.now services.now) }
-{
-    let mut first: Option<(usize, Verdict)> = None;
-    for service in services {
-        first = earlier(first, judge_service(alloc, log, service)?);
-    }
-    match first {
-        Some((_, verdict)) => Ok(Some(verdict)),
-        None => Ok(None),
     }
 }

@@ -1,10 +1,10 @@
 //! The order in which calls took effect.
-ghost use Rattle.std.specs.Prelude.{◌≡◌, ◌<◌, ◌++◌, ◌∷◌, [], All, IfErr, IfOk, IfNone, Some, length};
+ghost use Rattle.std.specs.Prelude.{◌≡◌, ◌<◌, ◌++◌, ◌∷◌, [], All, IfErr, IfOk, IfNone, OnOk, Some, length};
 ghost use Rattle.std.specs.List.{AllZip};
 ghost use Rattle.histories.specs.Frontier.{IsFrontOf};
 ghost use Rattle.history_logs.specs.Good.{IsOrderly};
 ghost use Rattle.history_logs.specs.Judging.{AreJudged, AreOrdered, IsFoundOf};
-ghost use Rattle.history_logs.specs.Logs.{BeginsAt, StepOf, news};
+ghost use Rattle.history_logs.specs.Logs.{BeginsAt, IsSeenRightly, StepOf, news};
 ghost use Rattle.history_logs.specs.Orders.{IsOrderOf};
 ghost use Rattle.history_logs.specs.EventLines.{HasEventLines};
 
@@ -47,41 +47,47 @@ fn order_of(
     })
 }
 
-/// Adds an order of the calls on the service that explains what was seen of it. Where none does,
-/// returns what was found, with its line.
+/// Judges what was seen of a service. Returns what was found, with its line, unless orders of the
+/// calls explain all. Where it is never cut, adds an order that does.
 fn order_service(
     alloc: Global,
     log: &[u8],
     service: &LogService,
+    cut: Cut,
     orders: &mut Vec<Order>,
 ) -> Result<Option<(usize, Verdict)>, AllocError>
     requires orderly { IsOrderly service.now }
     requires located { HasEventLines log.now service.now }
     ensures found { IfOk result (IsFoundOf log.now service.now) }
-    ensures order { IfOk result (λ found. IfNone found ((order : Order)
+    ensures order { cut ≡ Cut.Never → IfOk result (λ found. IfNone found ((order : Order)
         × IsOrderOf service.now order
         × (orders.new.items ≡ orders.old.items ++ order ∷ []))) }
 {
-    match explore(alloc, log, service, Cut::Never)? {
-        Ok(window) => {
-            let order = order_of(alloc, service, &window)?;
-            orders.push(order)?;
-            Ok(None)
-        }
+    match explore(alloc, log, service, cut)? {
+        Ok(window) => match cut {
+            Cut::WhereQuiet => Ok(None),
+            Cut::Never => {
+                let order = order_of(alloc, service, &window)?;
+                orders.push(order)?;
+                Ok(None)
+            }
+        },
         Err(found) => Ok(Some(found)),
     }
 }
 
-/// For each service an order of the calls on it that explains what was seen of it. Where there is
-/// not one for each, what was found before all else.
-pub(super) fn order_services(
+/// Judges what was seen of each service: what was found before all else, unless orders of the calls
+/// explain all. Where it is never cut, there is an order for each service then.
+pub(super) fn judge_services(
     alloc: Global,
     log: &[u8],
     services: &[LogService],
+    cut: Cut,
 ) -> Result<Result<Vec<Order>, Verdict>, AllocError>
     requires orderly { All IsOrderly services.now }
     requires located { All (HasEventLines log.now) services.now }
-    ensures orders { IfOk result (λ found. IfOk found
+    ensures right { IfOk result (λ found. OnOk found (All IsSeenRightly services.now)) }
+    ensures orders { cut ≡ Cut.Never → IfOk result (λ found. IfOk found
         (λ orders. AreOrdered services.now orders.items)) }
     ensures found { IfOk result (λ found. IfErr found
         (λ verdict. AreJudged log.now services.now (Some verdict))) }
@@ -89,7 +95,7 @@ pub(super) fn order_services(
     let mut first: Option<(usize, Verdict)> = None;
     let mut orders = Vec::new(alloc);
     for service in services {
-        first = earlier(first, order_service(alloc, log, service, &mut orders)?);
+        first = earlier(first, order_service(alloc, log, service, cut, &mut orders)?);
     }
     match first {
         Some((_, verdict)) => Ok(Err(verdict)),

@@ -109,7 +109,7 @@ fn count_in(alloc: Global, lines: usize) -> Result<Vec<u8>, AllocError>
 impl<C: Clock + Drop, W: Sink + Drop> Progress for Counts<C, W> {
     ghost contents = { λ c. W.contents c.out };
 
-    #[tactic(auto, using(crate::proofs::Counts::no_counts))]
+    #[tactic(auto, using(crate::proofs::Reports::no_counts))]
     fn count(&mut self, lines: usize) {
         if lines % LINES_A_LOOK != 0 {
             return;
@@ -122,7 +122,7 @@ impl<C: Clock + Drop, W: Sink + Drop> Progress for Counts<C, W> {
         }
     }
 
-    #[tactic(auto, using(crate::proofs::Counts::no_counts))]
+    #[tactic(auto, using(crate::proofs::Reports::no_counts))]
     fn end(&mut self) {
         if self.is_shown {
             self.write(b"\n");

@@ -6,7 +6,8 @@ ghost use Rattle.log_lines.specs.Lines.Line.{service as service_line, call as ca
 ghost use Rattle.log_lines.specs.Lines.Line.{begin as begin_line, end as end_line, crash as crash_line};
 ghost use Rattle.log_lines.specs.Lines.Line.{given as given_line};
 ghost use Rattle.log_lines.specs.States.{state_seen};
-ghost use Rattle.history_logs.specs.Fields.{AreNumbers, IsReady, callers_of, log_of};
+ghost use Rattle.history_logs.specs.CallerFields.{callers_of};
+ghost use Rattle.history_logs.specs.Fields.{AreNumbers, IsReady, log_of};
 ghost use Rattle.log_lines.specs.Lines.{IsLine, Line, line_seen, line_text};
 ghost use Rattle.history_logs.specs.Good.{GivesAnew, IsReadTo, SaysIn, Takes, TakesLine};
 ghost use Rattle.history_logs.specs.Good.{TakesNext, is_service};
@@ -205,8 +206,7 @@ impl Reading {
             return Ok(Some(expected));
         }
         let number = self.services[at].begin_call(begun, line)?;
-        self.callers
-            .set(alloc, caller, CallerState::Calls(at, number))?;
+        self.callers.begin(alloc, caller, at, number)?;
         Ok(None)
     }
 

@@ -1,5 +1,5 @@
 //! The texts of verdicts.
-ghost use Rattle.std.specs.Prelude.{◌≡◌, ◌++◌, IfOk, OnOk, codes, decimal};
+ghost use Rattle.std.specs.Prelude.{◌≡◌, ◌++◌, ℕ, IfOk, List, OnOk, codes, decimal};
 ghost use Rattle.std.specs.List.{flat_map};
 ghost use Rattle.history_logs.specs.Reports.{attached_text, call_text, choice_text, config_text};
 ghost use Rattle.history_logs.specs.Reports.{conforms_text, expected_text, for_count, form_text};
@@ -34,33 +34,55 @@ fn append_id(id: u128, out: &mut Vec<u8>) -> Result<(), AllocError>
     out.extend_from_slice(text.as_bytes())
 }
 
-/// Appends nodes.
-fn append_nodes(nodes: &[UniqueNodeId], out: &mut Vec<u8>) -> Result<(), AllocError>
-    ensures { OnOk result (out.new.items ≡ out.old.items ++ flat_map id_word nodes.now) }
-{
-    for id in nodes {
-        append_id(id.value(), out)?;
-    }
-    Ok(())
+/// What is reported as a text of its own, of which several may stand one after another.
+trait Reported {
+    /// The text.
+    ghost text: { Self → List ℕ };
+
+    /// Appends the text.
+    fn append(&self, out: &mut Vec<u8>) -> Result<(), AllocError>
+        ensures { OnOk result (out.new.items ≡ out.old.items ++ text self.now) };
 }
 
-/// Appends ports.
-fn append_ports(ports: &[PortDetails], out: &mut Vec<u8>) -> Result<(), AllocError>
-    ensures { OnOk result (out.new.items ≡ out.old.items ++ flat_map port_word ports.now) }
-{
-    for details in ports {
-        append_id(details.port_id().value(), out)?;
+impl Reported for UniqueNodeId {
+    ghost text = { id_word };
+
+    fn append(&self, out: &mut Vec<u8>) -> Result<(), AllocError> {
+        append_id(self.value(), out)
     }
-    Ok(())
 }
 
-/// Appends lines.
-fn append_numbers(numbers: &[usize], out: &mut Vec<u8>) -> Result<(), AllocError>
-    ensures { OnOk result (out.new.items ≡ out.old.items ++ flat_map number_word numbers.now) }
-{
-    for number in numbers {
+impl Reported for PortDetails {
+    ghost text = { port_word };
+
+    fn append(&self, out: &mut Vec<u8>) -> Result<(), AllocError> {
+        append_id(self.port_id().value(), out)
+    }
+}
+
+impl Reported for u128 {
+    ghost text = { id_word };
+
+    fn append(&self, out: &mut Vec<u8>) -> Result<(), AllocError> {
+        append_id(*self, out)
+    }
+}
+
+impl Reported for usize {
+    ghost text = { number_word };
+
+    fn append(&self, out: &mut Vec<u8>) -> Result<(), AllocError> {
         out.push(b' ')?;
-        append_decimal(*number as u64, out)?;
+        append_decimal(*self as u64, out)
+    }
+}
+
+/// Appends the text of each.
+fn append_each<T: Reported>(items: &[T], out: &mut Vec<u8>) -> Result<(), AllocError>
+    ensures { OnOk result (out.new.items ≡ out.old.items ++ flat_map T.text items.now) }
+{
+    for item in items {
+        item.append(out)?;
     }
     Ok(())
 }
@@ -124,24 +146,14 @@ fn append_next(next: &NextHandle, out: &mut Vec<u8>) -> Result<(), AllocError>
     append_number(b" ", next.ticket, out)
 }
 
-/// Appends ids.
-fn append_ids(ids: &[u128], out: &mut Vec<u8>) -> Result<(), AllocError>
-    ensures { OnOk result (out.new.items ≡ out.old.items ++ flat_map id_word ids.now) }
-{
-    for id in ids {
-        append_id(*id, out)?;
-    }
-    Ok(())
-}
-
 /// Appends the ids for which the reply to a weak listing is refused.
 fn append_list(lists: &PossibleList, out: &mut Vec<u8>) -> Result<(), AllocError>
     ensures { OnOk result (out.new.items ≡ out.old.items ++ lists_text lists.now) }
 {
     out.extend_from_slice(b"the list with:")?;
-    append_ids(&lists.missing, out)?;
+    append_each(&lists.missing, out)?;
     out.extend_from_slice(b", without:")?;
-    append_ids(&lists.unseen, out)?;
+    append_each(&lists.unseen, out)?;
     Ok(())
 }
 
@@ -164,7 +176,7 @@ fn append_made(lines: &[usize], out: &mut Vec<u8>) -> Result<(), AllocError>
         return out.extend_from_slice(b"made: none");
     }
     out.extend_from_slice(b"made: lines")?;
-    append_numbers(lines, out)?;
+    append_each(lines, out)?;
     Ok(())
 }
 
@@ -177,9 +189,9 @@ fn append_attached(
     ensures { OnOk result (out.new.items ≡ out.old.items ++ attached_text nodes.now ports.now) }
 {
     out.extend_from_slice(b"nodes:")?;
-    append_nodes(nodes, out)?;
+    append_each(nodes, out)?;
     out.extend_from_slice(b"\nports:")?;
-    append_ports(ports, out)?;
+    append_each(ports, out)?;
     out.extend_from_slice(b"\n")?;
     Ok(())
 }
@@ -199,23 +211,14 @@ fn append_choice(
     Ok(())
 }
 
-/// Appends the lines of a configuration.
-fn append_configuration(reported: &Configuration, out: &mut Vec<u8>) -> Result<(), AllocError>
-    ensures { OnOk result (out.new.items ≡ out.old.items ++ config_text reported.now) }
-{
-    append_choice(&reported.made, &reported.possible, out)?;
-    append_attached(&reported.nodes, &reported.ports, out)?;
-    Ok(())
-}
+impl Reported for Configuration {
+    ghost text = { config_text };
 
-/// Appends the lines of configurations.
-fn append_configurations(reported: &[Configuration], out: &mut Vec<u8>) -> Result<(), AllocError>
-    ensures { OnOk result (out.new.items ≡ out.old.items ++ flat_map config_text reported.now) }
-{
-    for one in reported {
-        append_configuration(one, out)?;
+    fn append(&self, out: &mut Vec<u8>) -> Result<(), AllocError> {
+        append_choice(&self.made, &self.possible, out)?;
+        append_attached(&self.nodes, &self.ports, out)?;
+        Ok(())
     }
-    Ok(())
 }
 
 /// Appends the line of the command of a call.
@@ -235,7 +238,7 @@ fn append_window(window: usize, needed: &[usize], out: &mut Vec<u8>) -> Result<(
 {
     append_number(b"\nwindow: from line ", window as u64, out)?;
     out.extend_from_slice(b"\nneeded: lines")?;
-    append_numbers(needed, out)?;
+    append_each(needed, out)?;
     Ok(())
 }
 
@@ -249,7 +252,7 @@ fn append_refusal(reported: &Refusal, out: &mut Vec<u8>) -> Result<(), AllocErro
     append_call(reported.call, &reported.command, out)?;
     append_window(reported.window, &reported.needed, out)?;
     out.push(b'\n')?;
-    append_configurations(&reported.configurations, out)?;
+    append_each(&reported.configurations, out)?;
     Ok(())
 }
 
@@ -382,22 +385,20 @@ fn append_lines(numbers: &[usize], out: &mut Vec<u8>) -> Result<(), AllocError>
     Ok(())
 }
 
-/// Appends the order of the calls on a service.
-fn append_order(order: &Order, out: &mut Vec<u8>) -> Result<(), AllocError>
-    ensures { OnOk result (out.new.items ≡ out.old.items ++ order_text order.now) }
-{
-    append_number(b"service ", order.service, out)?;
-    out.push(b'\n')?;
-    append_lines(&order.lines, out)?;
-    Ok(())
+impl Reported for Order {
+    ghost text = { order_text };
+
+    fn append(&self, out: &mut Vec<u8>) -> Result<(), AllocError> {
+        append_number(b"service ", self.service, out)?;
+        out.push(b'\n')?;
+        append_lines(&self.lines, out)?;
+        Ok(())
+    }
 }
 
 /// Appends the orders of the calls on services.
 pub(super) fn append_orders(orders: &[Order], out: &mut Vec<u8>) -> Result<(), AllocError>
     ensures { OnOk result (out.new.items ≡ out.old.items ++ flat_map order_text orders.now) }
 {
-    for order in orders {
-        append_order(order, out)?;
-    }
-    Ok(())
+    append_each(orders, out)
 }

@@ -103,7 +103,7 @@ fn behind_begun(event: Event) -> Option<usize>
 }
 
 /// The number behind that of the last call that begins in the events, or this one, where none does.
-#[tactic(auto, using(crate::proofs::Least::begins_at))]
+#[tactic(auto, using(crate::proofs::Settled::begins_at))]
 fn behind_last(events: &[Event], first: usize) -> usize
     ensures { IsBehindBegun first events.now result }
 {

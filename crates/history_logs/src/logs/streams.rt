@@ -111,7 +111,7 @@ fn judged<P: Progress>(
 }
 
 /// Judges the log that the reader gives, and returns the status unless a stream fails.
-#[tactic(auto, using(crate::proofs::Counts::no_counts))]
+#[tactic(auto, using(crate::proofs::Reports::no_counts))]
 fn run<R: Source, W: Sink, E: Sink, P: Progress>(
     alloc: Global,
     input: &mut R,

@@ -1,4 +1,4 @@
-use Rattle.history_logs.proofs.Empty.{empty_none}
+use Rattle.history_logs.proofs.Starting.{empty_none}
 use Rattle.history_logs.proofs.laws.empty_states_change_nothing.Goals as goal
 
 pub returns : goal.returns

@@ -1,4 +1,4 @@
-use Rattle.history_logs.proofs.Words.{List, ap, flat_map, order_text, report_text, ℕ, ◌++◌, ◌∙◌}
+use Rattle.history_logs.proofs.Words.{List, ap, flat_map, order_text, refl, report_text, ℕ, ◌++◌, ◌∙◌}
 use Rattle.history_logs.proofs.logs.witness_read.Goals as goal
 
 pub returns-clause-text : goal.returns-clause-text
@@ -7,7 +7,7 @@ returns-clause-text c =
     let report = report_text c.in_ok-verdict.verdict in
     let reported = flat_map order_text c.deref.result.now in (
       orders,
-      c.in_ok-verdict.ensures.orders,
+      c.in_ok-verdict.ensures.orders refl,
       c.in_ok-append_orders.ensures
           ∙ (ap (λ (l : List ℕ). l ++ reported)
           (c.in_ok-append_report.ensures

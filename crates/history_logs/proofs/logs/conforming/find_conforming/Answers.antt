@@ -3,7 +3,7 @@ use Rattle.histories.proofs.Indices.{put_back}
 use Rattle.history_logs.specs.Logs.{Judged}
 use Rattle.history_logs.proofs.Above.{above_new}
 use Rattle.history_logs.proofs.Conforming.{above_sane, above_short, few_short, judged_short, no_more, numbers_stay, short_more, short_none, short_stays}
-use Rattle.history_logs.proofs.Counts.{counts_more, no_counts}
+use Rattle.history_logs.proofs.Reports.{counts_more, no_counts}
 use Rattle.history_logs.proofs.logs.conforming.find_conforming.Goals as goal
 
 pub loop-text-init : goal.loop-text-init

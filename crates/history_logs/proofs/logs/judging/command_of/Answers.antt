@@ -1,6 +1,5 @@
 use Rattle.history_logs.proofs.Words.{ap, subst, sym, ◌+◌}
-use Rattle.history_logs.proofs.Commands.{IsFoundIn, note_or_reply_next, command_next, found_end, found_last, is_command}
-use Rattle.history_logs.proofs.LinesAt.{left_more}
+use Rattle.history_logs.proofs.LinesAt.{IsFoundIn, note_or_reply_next, command_next, found_end, found_last, is_command, left_more}
 use Rattle.history_logs.proofs.logs.judging.command_of.Goals.{else-not-is_note_or_reply, then-not-is_note_or_reply}
 use Rattle.history_logs.proofs.logs.judging.command_of.Goals as goal
 

@@ -1,4 +1,4 @@
-use Rattle.history_logs.proofs.Commands.{IsFoundIn, IsLeft}
+use Rattle.history_logs.proofs.LinesAt.{IsFoundIn, IsLeft}
 use Rattle.history_logs.proofs.logs.judging.command_of.Given as goal
 
 abbrev pub invariant-loop-above : goal.invariant-loop-above

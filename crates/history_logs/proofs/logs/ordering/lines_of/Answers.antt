@@ -1,4 +1,4 @@
-use Rattle.history_logs.proofs.Ordered.{begins_more}
+use Rattle.history_logs.proofs.Judgements.{begins_more}
 use Rattle.history_logs.proofs.logs.ordering.lines_of.Goals as goal
 
 pub loop-call-preserved : goal.loop-call-preserved

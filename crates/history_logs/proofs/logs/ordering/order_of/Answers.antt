@@ -1,5 +1,5 @@
 use Rattle.history_logs.proofs.Words.{ap, refl}
-use Rattle.history_logs.proofs.Ordered.{calls_within, order_reported}
+use Rattle.history_logs.proofs.Judgements.{calls_within, order_reported}
 use Rattle.history_logs.proofs.logs.ordering.order_of.Goals as goal
 
 pub lines_of-requires : goal.lines_of-requires

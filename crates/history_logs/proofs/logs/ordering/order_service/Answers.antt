@@ -1,14 +1,19 @@
-use Rattle.history_logs.proofs.Words.{refl}
+use Rattle.history_logs.proofs.Words.{sym, ◌∙◌}
 use Rattle.history_logs.proofs.logs.ordering.order_service.Goals as goal
+
+pub returns-in-WhereQuiet-clause-found : goal.returns-in-WhereQuiet-clause-found
+returns-in-WhereQuiet-clause-found c =
+    let explored = rw c.in-Ok.is at c.in_ok-window.ensures in explored.0
+
+pub returns-in-WhereQuiet-clause-order : goal.returns-in-WhereQuiet-clause-order
+returns-in-WhereQuiet-clause-order c =
+    λ never. let other = sym c.in-WhereQuiet.is ∙ never in absurd (cc)
 
 pub order_of-requires : goal.order_of-requires
 order_of-requires c =
     let explored = rw c.in-Ok.is at c.in_ok-window.ensures in
     record {
       orderly = c.requires.orderly;
-      front = explored.2 refl;
+      front = explored.2 c.in-Never.is;
       some = explored.1;
     }
-
-pub returns-in-Err-clause-found : goal.returns-in-Err-clause-found
-returns-in-Err-clause-found c = rw c.in-Err.is at c.in_ok-window.ensures

@@ -1,7 +1,7 @@
 use Rattle.history_logs.proofs.Words.{log_of, rules}
 use Rattle.history_logs.proofs.Above.{above_more, above_new, read_bad, read_newline}
 use Rattle.history_logs.proofs.Kept.{sane_of}
-use Rattle.history_logs.proofs.Counts.{counts_more, no_counts}
+use Rattle.history_logs.proofs.Reports.{counts_more, no_counts}
 use Rattle.history_logs.proofs.logs.reading.read_log.Goals as goal
 
 pub loop-text-init : goal.loop-text-init

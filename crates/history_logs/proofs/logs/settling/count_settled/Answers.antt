@@ -1,6 +1,6 @@
 use Rattle.history_logs.proofs.Words.{MayFollowAt, arith, rules, ℕ}
 use Rattle.std.proofs.Common.{below_more}
-use Rattle.history_logs.proofs.Least.{over_upto}
+use Rattle.history_logs.proofs.Settled.{over_upto}
 use Rattle.history_logs.proofs.logs.settling.count_settled.Goals as goal
 
 pub loop-at-init : goal.loop-at-init

@@ -1,6 +1,6 @@
 use Rattle.history_logs.proofs.Words.{flat_map, fold, min, option_to_list, rules, subst, sym, ◌≡◌}
 use Rattle.std.proofs.iter.runs.Made.{chains}
-use Rattle.history_logs.proofs.Least.{IsLeast, least_is}
+use Rattle.history_logs.proofs.Settled.{IsLeast, least_is}
 use Rattle.history_logs.proofs.logs.settling.first_open.Goals as goal
 
 pub returns : goal.returns

@@ -1,4 +1,4 @@
-use Rattle.history_logs.proofs.Counts.{counts_more}
+use Rattle.history_logs.proofs.Reports.{counts_more}
 use Rattle.history_logs.proofs.logs.streams.judged.Goals as goal
 
 pub returns-clause-progress : goal.returns-clause-progress

@@ -1,16 +1,30 @@
-use Rattle.history_logs.proofs.Words.{rules}
-use Rattle.history_logs.proofs.Callers.{sets_state}
+use Rattle.std.proofs.Common.{arith}
+use Rattle.history_logs.proofs.Callers.{ended_open, same_open}
 use Rattle.history_logs.proofs.logs.callers.Callers.set.Goals as goal
 
-pub returns-in-Some : goal.returns-in-Some
-returns-in-Some c =
-    sets_state c.args.name.now c.args.state c.args.self.now.states
-    (c.get_mut.follows.lender c.args.state)
-    ((c.get_mut.follows.holds c.args.state).3 (search rules))
+pub index_mut-requires : goal.index_mut-requires
+index_mut-requires c =
+    let calls = c.in-Some.ensures.some in
+    let ended = ended_open c.self.inside.counts.items c.self.inside.states.entries _ _ _ _ _
+    c.self.invariant c.requires (rw calls.1 at c.in_ok-was.ensures.puts) in
+    omega (arith, ended.0, c.self.inside.counts.ok.0)
 
-pub returns : goal.returns
-returns c =
-    let name = c.in_ok-name.name.items in
-    let sets = sets_state name c.args.state c.get_mut.follows.lender-at-none c.insert.new.self
-    c.in_ok-insert.ensures.updates in
-    rw (c.in_ok-name.ensures.items, c.get_mut.follows.holds-at-none) at sets
+pub overflow_sub-index_mut : goal.overflow_sub-index_mut
+overflow_sub-index_mut c =
+    let calls = c.in-Some.ensures.some in
+    let ended = ended_open c.self.inside.counts.items c.self.inside.states.entries _ _ _ _ _
+    c.self.invariant c.requires (rw calls.1 at c.in_ok-was.ensures.puts) in
+    (ended.1 _ c.index_mut.ensures.value).0
+
+pub invariant_of-self-2 : goal.invariant_of-self-2
+invariant_of-self-2 c =
+    let calls = c.in-Some.ensures.some in
+    let ended = ended_open c.self.inside.counts.items c.self.inside.states.entries _ _ _ _ _
+    c.self.invariant c.requires (rw calls.1 at c.in_ok-was.ensures.puts) in
+    (ended.1 _ c.index_mut.ensures.value).1
+
+pub invariant_of-self-in_default : goal.invariant_of-self-in_default
+invariant_of-self-in_default c =
+    same_open c.self.inside.counts.items c.self.inside.states.entries
+    c.put.new.states.entries c.args.name.now c.args.state _ c.self.invariant c.requires
+    c.in_default.ensures.none c.in_ok-was.ensures.puts

@@ -1,4 +1,4 @@
-use Rattle.history_logs.proofs.Counts.{count_written}
+use Rattle.history_logs.proofs.Reports.{count_written}
 use Rattle.history_logs.proofs.logs.progress.Counts.write.Goals as goal
 
 pub returns-then-not-self : goal.returns-then-not-self

@@ -1,5 +1,5 @@
 use Rattle.history_logs.proofs.Words.{called, named, refl, ◌∙◌}
-use Rattle.history_logs.proofs.Alone.{alone_made, called_stops}
+use Rattle.history_logs.proofs.Answering.{alone_made, called_stops}
 use Rattle.history_logs.proofs.logs.service.LogService.alone.Goals as goal
 
 pub returns : goal.returns

@@ -1,6 +1,5 @@
 use Rattle.history_logs.proofs.Words.{Judged, List, Service, Some, ap, arith, forgotten, length, length-append, length-replicate, refl, replicate, service_of, slice_get-get_or, start_of, sym, with_end, ℕ, ◌++◌, ◌-◌, ◌<◌, ◌∙◌, ◌≡◌, ◌≤◌}
-use Rattle.history_logs.proofs.Answering.{answered_over, end_is, length_shown_from, starts_kept}
-use Rattle.history_logs.proofs.Forgotten.{get_kept}
+use Rattle.history_logs.proofs.Answering.{answered_over, end_is, length_shown_from, starts_kept, get_kept}
 use Rattle.history_logs.proofs.logs.service.LogService.end.Goals as goal
 
 pub overflow_sub-at : goal.overflow_sub-at

@@ -1,10 +1,10 @@
 use Rattle.history_logs.proofs.Words.{HasEventLines, IsOrderly}
 use Rattle.history_logs.proofs.Found.{first_whole, item_of}
-use Rattle.history_logs.proofs.Ordered.{orders_all, orders_next, orders_none}
-use Rattle.history_logs.proofs.logs.ordering.order_services.Goals as goal
+use Rattle.history_logs.proofs.Judgements.{orders_all, orders_next, orders_none}
+use Rattle.history_logs.proofs.logs.ordering.judge_services.Goals as goal
 
 pub loop-service-init : goal.loop-service-init
-loop-service-init c = orders_none _ _ _ c.new-orders.ensures.items
+loop-service-init c = orders_none _ _ _ _ c.new-orders.ensures.items
 
 pub order_service-requires-clause-orderly : goal.order_service-requires-clause-orderly
 order_service-requires-clause-orderly c =
@@ -17,7 +17,7 @@ order_service-requires-clause-located c =
 
 pub loop-service-preserved : goal.loop-service-preserved
 loop-service-preserved c =
-    orders_next _ _ _ _ _ _ _ _ _ c.requires.orderly
+    orders_next _ _ _ _ _ _ _ _ _ _ c.requires.orderly
     c.requires.located c.loop-service-test.true c.service-item.is c.loop-service.invariant
     c.in_ok-order_service.ensures.found c.in_ok-order_service.ensures.order c.earlier-first.ensures
 
@@ -27,6 +27,11 @@ returns-in-Some-clause-found c = (
   first_whole _ _ _ _ _ c.loop-service-test.false c.loop-service.invariant.found c.in-Some.is,
 )
 
+pub returns-in-None-clause-right : goal.returns-in-None-clause-right
+returns-in-None-clause-right c =
+    first_whole _ _ _ _ _ c.loop-service-test.false c.loop-service.invariant.found c.in-None.is
+
 pub returns-in-None-clause-orders : goal.returns-in-None-clause-orders
 returns-in-None-clause-orders c =
-    orders_all _ _ _ c.loop-service-test.false (c.loop-service.invariant.ordered c.in-None.is)
+    λ never. orders_all _ _ _ c.loop-service-test.false
+    (c.loop-service.invariant.ordered never c.in-None.is)

@@ -1,10 +1,10 @@
 use Rattle.history_logs.proofs.Words.{List, [], ap, append_assoc, codes, decimal, flat_map, line_of, rules, ℕ, ◌++◌, ◌∙◌, ◌∷◌, ◌≡◌}
 use Rattle.history_logs.proofs.Reports.{two_parts}
-use Rattle.history_logs.proofs.logs.report.append_order.Goals as goal
+use Rattle.history_logs.proofs.logs.report.OrderReported.append.Goals as goal
 
 pub returns : goal.returns
 returns c =
-    let order = c.args.order.now in
+    let order = c.args.self.now in
     let one = c.append_number.new.out.items in
     let two = c.push.new.self.items in
     let lines = flat_map line_of c.deref.result.now in

@@ -1,5 +1,0 @@
-use Rattle.history_logs.proofs.Ordered.{OrdersTo}
-use Rattle.history_logs.proofs.logs.ordering.order_services.Given as goal
-
-abbrev pub invariant-loop-service : goal.invariant-loop-service
-invariant-loop-service l = OrdersTo l.fn.log l.services l.service-index l.first l.orders.items
