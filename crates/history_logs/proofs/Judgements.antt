@@ -1,16 +1,16 @@
 -- What all services are judged to be, and the orders of their calls.
-use Rattle.history_logs.proofs.Words.{All, All-weaker, AllZip, AreJudged, BeginsAt, Bool, Conforms, Contains, Expected, HasEventLines, HasOrders, IfNone, IsFirstFound, IsFoundOf, IsNotBefore, IsOrderly, IsReadTo, IsRefusedIn, IsRightAbove, IsSeenRightly, List, Log, ManyConfigs, ManyOpen, None, NoneRefused, NoneRefusedAbove, Option, Refusal, Refused, Service, Some, StepOf, Stop, StopsIn, Verdict, Watched, Window, [], arith, comes_before, earlier, end_verdict, false, get_or, get_or_default, length, news, refl, services_in, slice_get-get_or, subst, sum_by, sym, take, take_all, true, ℕ, ◌++◌, ◌+◌, ◌<◌, ◌∙◌, ◌∷◌, ◌≡◌, ◌≤◌}
+use Rattle.history_logs.proofs.Words.{All, All-weaker, AllZip, AreJudged, BeginsAt, Bool, Conforms, Contains, Expected, HasEventLines, HasOrders, IfNone, IsFirstFound, IsFoundOf, IsNotBefore, IsOrderly, IsReadTo, IsRefusedIn, IsRightAbove, IsSeenRightly, List, Log, ManyConfigs, ManyOpen, None, NoneRefused, NoneRefusedAbove, Option, Refusal, Refused, Service, Some, StepOf, Stop, StopsIn, Verdict, Watched, Window, [], arith, comes_before, earlier, end_verdict, false, get_or, get_or_default, inl, length, news, refl, services_in, slice_get-get_or, subst, sum_by, sym, take, take_all, true, ℕ, ◌++◌, ◌+◌, ◌<◌, ◌∙◌, ◌∷◌, ◌≡◌, ◌≤◌}
 use Rattle.histories.specs.declared.window.Cut.{Cut}
 use Rattle.histories.specs.declared.window.Cut.TheVariants as cut
 use Rattle.histories.specs.declared.window.Stop.TheVariants as stop
 use Rattle.history_logs.specs.declared.logs.verdict.Verdict.TheVariants.{BadLine}
-use Rattle.history_logs.specs.Logs.{HasGood, IsRefusal, Judged, StopsAt}
+use Rattle.history_logs.specs.Logs.{HasGood, IsRefusal, Judged, RefusesNoneIn, StopsAt}
 use Rattle.histories.specs.Frontier.{IsFrontOf}
 use Rattle.histories.proofs.Counting.{times_at}
 use Rattle.histories.specs.Windows.{IsFirstOrder, IsOrder}
 use Rattle.histories.proofs.Indices.{first_explains}
 use Rattle.history_logs.specs.declared.logs.verdict.Order.{Order}
-use Rattle.history_logs.specs.Judging.{AreOrdered}
+use Rattle.history_logs.specs.Judging.{AreOrdered, IsFoundByAll, is_refused}
 use Rattle.history_logs.specs.Orders.{IsOrderOf}
 use Rattle.history_logs.proofs.Named.{some_service}
 use Rattle.history_logs.proofs.Found.{first_next, first_none}
@@ -56,7 +56,8 @@ refusal_of bytes services k s reported has r above =
 
 -- something was found
 pub judged_found : (bytes : List ℕ) (services : List Service) (bad : Option (ℕ × Expected))
-    (v : Verdict) → IsReadTo bytes services bad → AreJudged bytes services (Some v) → Judged bytes v
+    (v : Verdict) → IsReadTo bytes services bad → AreJudged bytes services (Some v)
+    → IsFoundByAll bytes v
 unfolding Judged
 judged_found bytes services bad (Conforms n m) r f = absurd f.1.2
 judged_found bytes services bad (Refused reported) r f = (
@@ -74,6 +75,19 @@ judged_found bytes services bad (ManyOpen line) r f =
     bound_passed bytes services bad f.0 line (ManyOpen line) stop.ManyOpen f.1.0 r f.1.1 f.1.2.0
     f.1.2.1 f.1.3 (λ t x. x)
 judged_found bytes services bad (BadLine line e) r f = absurd f.1.2
+
+-- no reply is refused
+pub refuses_none : (bytes : List ℕ) (services : List Service) (bad : Option (ℕ × Expected))
+    → IsReadTo bytes services bad → All NoneRefused services → RefusesNoneIn bytes
+refuses_none bytes services bad r all = (r.count, r.log, r.rest, r.good, rw r.same all)
+
+pub none_right : (services : List Service) → All IsSeenRightly services → All NoneRefused services
+none_right services all = All-weaker IsSeenRightly NoneRefused (λ s is. inl is) services all
+
+pub none_found : (bytes : List ℕ) (services : List Service) (v : Verdict)
+    → AreJudged bytes services (Some v) → is_refused v ≡ false → All NoneRefused services
+none_found bytes services v f is =
+    All-weaker (IsNotBefore f.0 v) NoneRefused (λ s before. (rw is at before).1) services f.1.3
 
 -- nothing was found, and no line is bad
 pub judged_conforms : (bytes : List ℕ) (services : List Service) (n m : ℕ)

@@ -20,3 +20,4 @@ pub mod Shortened
 pub mod Settled
 pub mod ShortLogs
 pub mod Conforming
+pub mod FirstLines

@@ -137,7 +137,7 @@ module _ (s : Service) (o : IsOrderly s) where
         begun_within = omega (arith, call_within, o.all.begins)
 
         pub refused_in : (begin : ℕ) → slice_get s.begins call ≡ Some begin
-            → (reported : Refusal) → reported.line ≡ line
+            → (reported : Refusal) → reported.reply ≡ line
             → ((seen : Line) (said : List ℕ) → IsLine seen → Answers seen said
             → IsLineAt bytes line (line_text seen) → reported.words.items ≡ said)
             → ((k : ℕ) (text : List ℕ) → IsCommandOf bytes begin k text

@@ -17,7 +17,7 @@ use Rattle.history_logs.specs.declared.logs.verdict.Order.{Order}
 use Rattle.history_logs.specs.declared.logs.verdict.Refusal.{Refusal}
 use Rattle.history_logs.specs.declared.logs.verdict.Verdict.{Verdict}
 use Rattle.history_logs.specs.declared.logs.verdict.Verdict.TheVariants as verdict
-use Rattle.history_logs.specs.Logs.{IsRefusalOf, IsRightAbove, IsSeenRightly, NoneRefused, NoneRefusedAbove, StepOf, StopsIn, news, services_in}
+use Rattle.history_logs.specs.Logs.{IsRefusalOf, IsRightAbove, IsSeenRightly, Judged, NoneRefused, NoneRefusedAbove, RefusesIn, StepOf, StopsIn, news, services_in}
 use Rattle.history_logs.specs.Orders.{IsOrderOf}
 use Rattle.history_logs.specs.Seen.{Service}
 
@@ -58,7 +58,7 @@ BeginBelow events count =
 pub record IsRefusedIn (bytes : List ℕ) (s : Service) (k : ℕ) (reported : Refusal) : Type 0 where
   pub index : ℕ
   pub stops : StopsIn s k index stop.Refused
-  pub line : reported.line ≡ k
+  pub line : reported.reply ≡ k
   pub report : IsRefusalOf bytes s index reported
 
 -- this is found of the service in this line
@@ -69,6 +69,12 @@ IsFound bytes s k (verdict.ManyConfigs line) =
 IsFound bytes s k (verdict.ManyOpen line) =
     (line ≡ k) × ((index : ℕ) × StopsIn s k index stop.ManyOpen)
 IsFound bytes s k _ = ⊥
+
+-- By all replies of the log this is found: the verdict, but that a reply may be refused already by
+-- those that stand in some first lines.
+abbrev pub IsFoundByAll : List ℕ → Verdict → Type 0
+IsFoundByAll bytes (verdict.Refused reported) = RefusesIn bytes reported
+IsFoundByAll bytes v = Judged bytes v
 
 -- what is found of the service, and its line; none where an order explains all
 abbrev pub IsFoundOf : List ℕ → Service → Option (ℕ × Verdict) → Type 0

@@ -1,5 +1,5 @@
 -- What a log is judged to be.
-use Rattle.std.specs.Prelude.{◌≡◌, ◌≢◌, ◌⊎◌, ℕ, ◌+◌, ◌<◌, List, [], ◌∷◌, ◌++◌, All, Bool, Contains, Option, Some, None, IsTrue, codes, drop, eqb, filter, get_or, length, ltb, map, slice_get, sum_by, take, true}
+use Rattle.std.specs.Prelude.{◌≡◌, ◌≢◌, ◌⊎◌, ◌==◌, ℕ, zero, suc, ◌+◌, ◌<◌, List, [], ◌∷◌, ◌++◌, All, Bool, Contains, Option, Some, None, IsTrue, codes, drop, eqb, filter, get_or, if◌then◌else◌, length, ltb, map, slice_get, sum_by, take, true}
 use Rattle.std.specs.List.{AllZip, dedup, flat_map}
 use Rattle.std.specs.Int.{bit_at}
 use Rattle.std.specs.Set.{distinct_count}
@@ -180,8 +180,35 @@ pub record IsRefusalOf (bytes : List ℕ) (s : Service) (index : ℕ) (reported 
 pub record IsRefusal (bytes : List ℕ) (services : List Service) (reported : Refusal) : Type 0 where
   pub s : Service
   pub index : ℕ
-  pub stops : RefusesAt services reported.line s index
+  pub stops : RefusesAt services reported.reply s index
   pub report : IsRefusalOf bytes s index reported
+
+-- a reply is refused in the good lines of the text, and this is what is reported of it
+abbrev pub RefusesIn : List ℕ → Refusal → Type 0
+RefusesIn text reported =
+    (count : ℕ) × (log : Log) × (rest : List ℕ) × HasGood text count log rest
+    × IsRefusal text log.services reported
+
+-- none is refused in them
+abbrev pub RefusesNoneIn : List ℕ → Type 0
+RefusesNoneIn text =
+    (count : ℕ) × (log : Log) × (rest : List ℕ) × HasGood text count log rest
+    × All NoneRefused log.services
+
+-- the first lines of a text, so many, or all, if it has fewer
+unfoldable pub first_lines : ℕ → List ℕ → List ℕ
+first_lines zero bytes = []
+first_lines (suc count) [] = []
+first_lines (suc count) (b ∷ bytes) =
+    b ∷ (if b == 10 then first_lines count bytes else first_lines (suc count) bytes)
+
+-- The line is the first one down to which a reply is refused. What is reported is by the replies
+-- that stand in the lines down to it: a call that is answered below it may have any reply.
+pub record IsFirstRefused (bytes : List ℕ) (reported : Refusal) : Type 0 where
+  pub above : ℕ
+  pub line : reported.line ≡ above + 1
+  pub none : RefusesNoneIn (first_lines above bytes)
+  pub refuses : RefusesIn (first_lines reported.line bytes) reported
 
 -- where the log ends after its good lines, something is missing
 abbrev pub IsMissing : Log → Expected → Type 0
@@ -241,8 +268,8 @@ services_in services =
 -- The log may be judged so.
 -- Conforms: all its lines are good, no call waits for its reply, there is a service, and of each an
 -- order of the calls explains what was seen.
--- Refused: of the good lines, what is seen of a service is explained above this line, and not with
--- it; that of each of the others is explained above it, or passes a bound there.
+-- Refused: what is seen of a service in the lines down to this one is not explained; what is seen of
+-- each in the lines above it is, or passes a bound.
 -- ManyConfigs, ManyOpen: what is seen of all services is explained above this line, which passes a
 -- bound; in the good lines no reply is refused.
 -- BadLine: what is seen of all services in the good lines is explained, and the line after them is
@@ -251,9 +278,7 @@ unfoldable pub Judged : List ℕ → Verdict → Type 0
 Judged bytes (verdict.Conforms n m) =
     (count : ℕ) × (log : Log) × HasGood bytes count log [] × (log.waits ≡ None)
     × All IsSeenRightly log.services × (n ≡ calls_in log) × (m ≡ services_in log.services) × (0 < m)
-Judged bytes (verdict.Refused reported) =
-    (count : ℕ) × (log : Log) × (rest : List ℕ) × HasGood bytes count log rest
-    × IsRefusal bytes log.services reported
+Judged bytes (verdict.Refused reported) = IsFirstRefused bytes reported
 Judged bytes (verdict.ManyConfigs k) =
     (count : ℕ) × (log : Log) × (rest : List ℕ) × HasGood bytes count log rest
     × ((s : Service) × (index : ℕ) × StopsAt log.services k s index stop.ManyConfigs)

@@ -93,12 +93,20 @@ window_text window needed =
     ((10 ∷ codes "window: from line ") ++ decimal window)
     ++ ((10 ∷ codes "needed: lines") ++ flat_map number_word needed)
 
+-- no order explains what is seen down to a line: the reply in it, or one above it
+unfoldable pub refused_text : ℕ → ℕ → List ℕ
+refused_text line reply =
+    (codes "line " ++ decimal line)
+    ++ (if reply == line
+    then codes ": no order of the calls explains this reply"
+    else codes ": with this reply no order of the calls explains that in line " ++ decimal reply)
+
 -- the lines of a reply that no order explains, of its call, of the calls that are needed, and of
 -- what the calls before it can have led to
 abbrev pub refusal_text : Refusal → List ℕ
 refusal_text reported =
-    (codes "line " ++ decimal reported.line)
-    ++ (codes ": no order of the calls explains this reply" ++ 10 ∷ codes "seen: ")
+    refused_text reported.line reported.reply
+    ++ (10 ∷ codes "seen: ")
     ++ reported.words.items
     ++ call_text reported.call reported.command.items
     ++ window_text reported.window reported.needed.items

@@ -11,6 +11,7 @@ ghost use Rattle.history_logs.specs.Seen.{Service};
 
 mod callers;
 mod conforming;
+mod deciding;
 mod judging;
 mod named;
 mod needed;
@@ -24,6 +25,7 @@ mod streams;
 mod verdict;
 
 use conforming::find_conforming;
+use deciding::decide;
 use histories::Cut;
 pub use log_lines::LogForm;
 use ordering::judge_services;
@@ -78,7 +80,10 @@ fn judge(
             Some((line, expected)) => Ok((Verdict::BadLine(line, expected), Vec::new(alloc))),
             None => Ok((end_verdict(reading), orders)),
         },
-        Err(verdict) => Ok((verdict, Vec::new(alloc))),
+        Err(found) => {
+            let verdict = decide(alloc, log, found)?;
+            Ok((verdict, Vec::new(alloc)))
+        }
     }
 }
 

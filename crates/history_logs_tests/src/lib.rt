@@ -14,6 +14,8 @@ mod cuts;
 #[cfg(test)]
 mod deaths;
 #[cfg(test)]
+mod deciding;
+#[cfg(test)]
 mod lines;
 #[cfg(test)]
 mod many;

@@ -14,10 +14,10 @@ static ORDERS: [Row; 11] = [
         "A> register 3.0.0.3\nB> register 4.0.0.4\nA< full\nB< handle 2 2\n",
         Said::Conforms(4, 1),
     ),
-    // The reply of a call counts from its begin on: no order has two that find no place.
+    // No order has two that find no place. Down to the first reply the other one may have taken it.
     (
         "A> register 3.0.0.3\nB> register 4.0.0.4\nA< full\nB< full\n",
-        Said::Refused(8, 6, 1),
+        Said::RefusedAbove(9, 8, 6, 1),
     ),
     (
         "A> register 3.0.0.3\nB> register 4.0.0.4\nA< handle 2 2\nB< handle 2 2\n",

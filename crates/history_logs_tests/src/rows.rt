@@ -1,6 +1,6 @@
 //! Logs as rows of a table, each with what it must be judged to be.
 
-use history_logs::logs::{Expected, Verdict, check_log};
+use history_logs::logs::{Expected, Refusal, Verdict, check_log};
 use std::alloc::{AllocError, Global};
 use std::process::Abort;
 use std::test::Fail;
@@ -10,9 +10,11 @@ use std::test::Fail;
 pub(super) enum Said {
     /// With the numbers of calls and of services.
     Conforms(usize, usize),
-    /// With the line of the reply, the line in which its window begins, and the number of
-    /// configurations.
+    /// With the line of the reply, which decides, the line in which its window begins, and the
+    /// number of configurations.
     Refused(usize, usize, usize),
+    /// With the line that decides, and then the same of a reply above it.
+    RefusedAbove(usize, usize, usize, usize),
     ManyConfigs(usize),
     ManyOpen(usize),
     BadLine(usize, Expected),
@@ -21,17 +23,21 @@ pub(super) enum Said {
 /// A log, or the end of one, and what it must be judged to be.
 pub(super) type Row = (&'static str, Said);
 
+/// What is said of a reply that is refused.
+fn refusal(reported: &Refusal) -> Said {
+    let many = reported.configurations.len();
+    if reported.reply == reported.line {
+        Said::Refused(reported.line, reported.window, many)
+    } else {
+        Said::RefusedAbove(reported.line, reported.reply, reported.window, many)
+    }
+}
+
 /// The verdict on a log.
 pub(super) fn verdict_on(alloc: Global, log: &[u8]) -> Result<Said, AllocError> {
     Ok(match check_log(alloc, log)? {
         Verdict::Conforms(calls, services) => Said::Conforms(calls, services),
-        Verdict::Refused(reported) => {
-            Said::Refused(
-                reported.line,
-                reported.window,
-                reported.configurations.len(),
-            )
-        }
+        Verdict::Refused(reported) => refusal(&reported),
         Verdict::ManyConfigs(line) => Said::ManyConfigs(line),
         Verdict::ManyOpen(line) => Said::ManyOpen(line),
         Verdict::BadLine(line, expected) => Said::BadLine(line, expected),

@@ -9,7 +9,7 @@ static SHOWN: [(&str, &str); 3] = [
     ("service event 7 2 0 0\n", "Conforms(0, 1)"),
     (
         "service event 7 1 0 1\nA> register 1.0.0.1\nnodes\n= list 1000000000000000000000001\nB> nodes\nB< full\n",
-        "Refused(Refusal { line: 6, words: [102, 117, 108, 108], call: 5, command: [66, 62, 32, \
+        "Refused(Refusal { line: 6, reply: 6, words: [102, 117, 108, 108], call: 5, command: [66, 62, 32, \
         110, 111, 100, 101, 115], window: 2, needed: [2, 5], \
         configurations: [Configuration { made: [2], possible: One(Nodes([UniqueNodeId { id: \
         UniqueId { value: 79228162514264337593543950337, kind: PhantomData<_> } }])), nodes: \
@@ -18,7 +18,7 @@ static SHOWN: [(&str, &str); 3] = [
     ),
     (
         "service event 7 2 0 1\nregister 1.0.0.1\n= full\n",
-        "Refused(Refusal { line: 3, words: [102, 117, 108, 108], call: 2, command: [114, 101, 103, \
+        "Refused(Refusal { line: 3, reply: 3, words: [102, 117, 108, 108], call: 2, command: [114, 101, 103, \
         105, 115, 116, 101, 114, 32, 49, 46, 48, 46, 48, 46, 49], window: 3, needed: [3], \
         configurations: [Configuration { made: [], possible: Handle(NextHandle { ticket: 0, \
         capacity: 2, taken: [] }), nodes: [], ports: [] }] })",

@@ -243,7 +243,7 @@ fn refused(
     requires window { IsWindowOf (StepOf service.now) (news service.now)
         (take index service.now.events) window.now }
     ensures { IfOk result (λ reported.
-        IsRefusedIn log.now service.now reported.line reported) }
+        IsRefusedIn log.now service.now reported.reply reported) }
 {
     let number = call_ended(service, index);
     let line = line_at(service, index);
@@ -256,6 +256,7 @@ fn refused(
     let configurations = configurations(alloc, service, &front.slots, &front.configs, number)?;
     Ok(Refusal {
         line,
+        reply: line,
         words,
         call,
         command,
@@ -282,7 +283,7 @@ fn reported_of(
         Found::Explained(window) => Ok(Ok(window)),
         Found::Refused(index, window) => {
             let reported = refused(alloc, log, service, index, &window)?;
-            Ok(Err((reported.line, Verdict::Refused(reported))))
+            Ok(Err((reported.reply, Verdict::Refused(reported))))
         }
         Found::ManyConfigs(index) => {
             let line = line_at(service, index);

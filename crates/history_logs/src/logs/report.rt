@@ -5,7 +5,8 @@ ghost use Rattle.history_logs.specs.Reports.{attached_text, call_text, choice_te
 ghost use Rattle.history_logs.specs.Reports.{conforms_text, expected_text, for_count, form_text};
 ghost use Rattle.history_logs.specs.Reports.{before_next, free_text, lists_text, range_text};
 ghost use Rattle.history_logs.specs.Reports.{line_of, made_text, next_text, number_word, order_text};
-ghost use Rattle.history_logs.specs.Reports.{possible_text, refusal_text, report_text, window_text};
+ghost use Rattle.history_logs.specs.Reports.{possible_text, refusal_text, refused_text, report_text};
+ghost use Rattle.history_logs.specs.Reports.{window_text};
 ghost use Rattle.service_descriptions.specs.Replies.{id_word, port_word, text_of};
 
 use super::verdict::{Configuration, Expected, Order, Refusal, Verdict};
@@ -242,12 +243,28 @@ fn append_window(window: usize, needed: &[usize], out: &mut Vec<u8>) -> Result<(
     Ok(())
 }
 
+/// Appends that no order explains what is seen down to a line, and the line of the reply if that is
+/// another one.
+fn append_refused(line: usize, reply: usize, out: &mut Vec<u8>) -> Result<(), AllocError>
+    ensures { OnOk result (out.new.items ≡ out.old.items ++ refused_text line reply) }
+{
+    append_number(b"line ", line as u64, out)?;
+    if reply == line {
+        return out.extend_from_slice(b": no order of the calls explains this reply");
+    }
+    append_number(
+        b": with this reply no order of the calls explains that in line ",
+        reply as u64,
+        out,
+    )
+}
+
 /// Appends the report on a reply that no order explains.
 fn append_refusal(reported: &Refusal, out: &mut Vec<u8>) -> Result<(), AllocError>
     ensures { OnOk result (out.new.items ≡ out.old.items ++ refusal_text reported.now) }
 {
-    append_number(b"line ", reported.line as u64, out)?;
-    out.extend_from_slice(b": no order of the calls explains this reply\nseen: ")?;
+    append_refused(reported.line, reported.reply, out)?;
+    out.extend_from_slice(b"\nseen: ")?;
     out.extend_from_slice(&reported.words)?;
     append_call(reported.call, &reported.command, out)?;
     append_window(reported.window, &reported.needed, out)?;

@@ -49,8 +49,12 @@ pub struct Configuration {
 /// A reply that no order of the calls explains.
 #[derive(Debug, Drop)]
 pub struct Refusal {
-    /// The number of its line.
+    /// The first line down to which the log is not explained: down to the line above it, it is, but
+    /// for services that pass a bound there. It has a reply.
     pub line: usize,
+    /// The line of the reply that is reported, which no order explains with the replies down to
+    /// `line`. It is that line, or one above it: a call that was open there has its reply in `line`.
+    pub reply: usize,
     /// Its words.
     pub words: Vec<u8>,
     /// The line of the command of its call, which is the line in which the call begins, but of a
@@ -74,8 +78,9 @@ pub struct Refusal {
 pub enum Verdict {
     /// Orders of the calls explain all replies: so many calls, on so many services.
     Conforms(usize, usize),
-    /// Orders explain what is above this reply, and none explains it. It is the first one, also
-    /// where a bound was passed above it on another service, or before its own one began anew.
+    /// Orders explain what is above a line, and none explains what is seen down to it. It is the
+    /// first such line, also where a bound was passed above it on another service, or before its own
+    /// one began anew.
     Refused(Refusal),
     /// At this line more than `histories::MAX_CONFIGS` configurations were to be followed: not
     /// decided. No reply is refused on another service, or below it, where the service began anew.

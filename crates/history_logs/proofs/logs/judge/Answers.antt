@@ -1,4 +1,4 @@
-use Rattle.history_logs.proofs.Words.{AreJudged, HasOrders, List, None, Service, arith, refl, subst, sym}
+use Rattle.history_logs.proofs.Words.{AreJudged, HasOrders, List, None, Service, [], arith, refl, subst, sym}
 use Rattle.history_logs.specs.Logs.{Judged}
 use Rattle.history_logs.proofs.Answered.{located_of}
 use Rattle.history_logs.proofs.Judgements.{few_calls, judged_bad, judged_conforms, judged_found, no_orders, orders_end}
@@ -16,15 +16,16 @@ end_verdict-requires-clause-few c =
     let few = few_calls _ _ _ c.requires.read in
     omega arith
 
-pub returns-in-Err-clause-judged : goal.returns-in-Err-clause-judged
-returns-in-Err-clause-judged c =
+pub decide-requires : goal.decide-requires
+decide-requires c =
     judged_found _ _ _ _ c.requires.read
     (rw (c.in-Err.is, c.deref.ensures.value) at c.in_ok-orders.ensures.found)
 
 pub returns-in-Err-clause-orders : goal.returns-in-Err-clause-orders
 returns-in-Err-clause-orders c =
-    λ never. no_orders _ _ _ _ (rw c.in-Err.is at c.in_ok-orders.ensures.found)
-    c.new-in-Err.ensures.items
+    λ never. rw c.new-in-Err.ensures.items
+    (c.in_ok-verdict.ensures.orders (no_orders _ _ _ [] (rw c.in-Err.is
+    at c.in_ok-orders.ensures.found) refl))
 
 pub returns-in-Some-clause-judged : goal.returns-in-Some-clause-judged
 returns-in-Some-clause-judged c =
