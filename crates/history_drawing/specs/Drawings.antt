@@ -48,7 +48,7 @@ pub record IsWindow (log : List ℕ) (reported : Refusal) (lines : List (Bor (Li
   pub first : w.first ≡ reported.window
   pub last : w.last ≡ reported.line
   pub service : IsFirstService lines w.service
-  pub wanted : IsServiceOf lines w.first (w.last + 1) reported.line w.service w.wanted
+  pub wanted : IsServiceOf lines w.first (reported.reply + 1) reported.reply w.service w.wanted
 
 -- of the lines of the log, these are all, with the calls on all services
 pub record IsWhole (log : List ℕ) (lines : List (Bor (List ℕ))) (w : Window) : Type 0 where
@@ -112,7 +112,7 @@ DrawsAll log report d =
 abbrev pub DrawsWindow : List ℕ → Refusal → List ℕ → Drawing → Type 0
 DrawsWindow log reported report d =
     (lines : List (Bor (List ℕ))) × (w : Window) × IsWindow log reported lines w
-    × DrawsLines log lines w (Some reported.line) report d
+    × DrawsLines log lines w (Some reported.reply) report d
 
 -- what is drawn of a log that is judged so, with this report
 abbrev pub Draws : List ℕ → Verdict → List ℕ → Drawing → Type 0

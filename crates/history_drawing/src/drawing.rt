@@ -129,7 +129,7 @@ fn window_of(alloc: Global, lines: &[&[u8]], reported: &Refusal) -> Result<Windo
         → IsWindow log reported.now lines.now w) }
 {
     let service = first_service(alloc, lines)?;
-    let wanted = service_of(alloc, lines, reported.window, reported.line, service)?;
+    let wanted = service_of(alloc, lines, reported.window, reported.reply, service)?;
     Ok(Window {
         first: reported.window,
         last: reported.line,
@@ -188,7 +188,7 @@ fn draw_refused(
     let lines = lines_of(alloc, log)?;
     let lines = lines.as_slice();
     let window = window_of(alloc, lines, reported)?;
-    draw_lines(alloc, log, lines, &window, Some(reported.line), report)
+    draw_lines(alloc, log, lines, &window, Some(reported.reply), report)
 }
 
 /// The picture of all calls of a log that conforms, with the points at which they took effect, or

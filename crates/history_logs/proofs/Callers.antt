@@ -1,5 +1,5 @@
 -- What callers do.
-use Rattle.std.proofs.Common.{All, List, None, Option, Some, ap, arith, cond, get_or, inl, inr, length, refl, sym, true, zero, ℕ, ◌+◌, ◌-◌, ◌<◌, ◌≤◌, ◌∙◌, ◌≡◌, ◌≢◌}
+use Rattle.std.proofs.Common.{All, List, None, Option, Some, ap, arith, cond, get_or, inl, inr, length, refl, sym, true, ℕ, ◌+◌, ◌-◌, ◌<◌, ◌≤◌, ◌∙◌, ◌≡◌, ◌≢◌}
 use Rattle.std.specs.Global.{Vec}
 use Rattle.std.specs.BTreeMap.{BTreeMap, IsOrdered, UpdatesBy, insert_entry}
 use Rattle.std.specs.Cmp.{IsTotalOrder}

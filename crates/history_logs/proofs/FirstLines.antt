@@ -1,11 +1,10 @@
 -- The first lines of a text, and the first one down to which a reply is refused.
-use Rattle.history_logs.proofs.Words.{All, All-head, All-nil, All-tail, All-weaker, AreJudged, Conforms, HasNo, HasOrders, IsNotBefore, IsReadTo, IsRightAbove, IsSeenRightly, List, Log, ManyConfigs, ManyOpen, None, NoneRefused, NoneRefusedAbove, Option, Refusal, Refused, Service, Some, Verdict, [], ap, append-nil, append_assoc, arith, inl, length, refl, subst, sym, take, suc, zero, ℕ, ◌++◌, ◌+◌, ◌-◌, ◌<◌, ◌∙◌, ◌∷◌, ◌≡◌, ◌≢◌, ◌≤◌}
+use Rattle.history_logs.proofs.Words.{All-head, All-nil, All-tail, HasNo, List, Log, None, NoneRefused, Refusal, Service, [], ap, append-nil, append_assoc, arith, length, refl, subst, sym, take, suc, zero, ℕ, ◌++◌, ◌+◌, ◌-◌, ◌<◌, ◌∙◌, ◌∷◌, ◌≡◌, ◌≢◌, ◌≤◌}
 use Rattle.std.proofs.lemmas.Bool.{ne_eqb}
 use Rattle.std.proofs.Math.Seq.{take-append_seam}
 use Rattle.std.proofs.lemmas.List.{length-append}
 use Rattle.history_logs.specs.Logs.{IsFirstRefused, IsRefusal, RefusesIn, RefusesNoneIn, first_lines}
 use Rattle.history_logs.specs.Reading.HasRead.{nothing}
-use Rattle.history_logs.specs.declared.logs.verdict.Verdict.TheVariants.{BadLine}
 
 -- another byte than a newline
 abbrev IsOther : ℕ → Type 0
@@ -130,20 +129,45 @@ refusal_at text services reported line is =
       };
     }
 
--- a reply is refused down to a line, and none above it
-pub decided : (bytes : List ℕ) (above line : ℕ) (reported : Refusal) → above < line
-    → line - above ≤ 1 → RefusesNoneIn (first_lines above bytes)
-    → RefusesIn (first_lines line bytes) reported
-    → IsFirstRefused bytes (record reported { line = line })
-decided bytes above line reported some one none refuses = record {
-  above = above;
-  line = omega arith;
-  none = none;
-  refuses = (
-    refuses.0,
-    refuses.1,
-    refuses.2,
-    refuses.3,
-    refusal_at _ _ reported line refuses.4,
-  );
+-- a reply is refused down to a line, and none down to one above it
+pub record StandsBetween (bytes : List ℕ) (above line : ℕ) (reported : Refusal) : Type 0 where
+  pub apart : above < line
+  pub none : RefusesNoneIn (first_lines above bytes)
+  pub refuses : RefusesIn (first_lines line bytes) reported
+
+pub between_all : (bytes : List ℕ) (line : ℕ) (reported : Refusal) → length bytes ≤ line
+    → 0 < line → RefusesIn bytes reported → StandsBetween bytes 0 line reported
+between_all bytes line reported all some refuses = record {
+  apart = some;
+  none = none_refused bytes;
+  refuses = subst (λ text. RefusesIn text reported) (sym (lines_all line bytes all)) refuses;
 }
+
+module _ (bytes : List ℕ) (above line tried : ℕ) (reported : Refusal)
+    (between : StandsBetween bytes above line reported)
+  where
+    pub between_below : tried < line → RefusesNoneIn (first_lines tried bytes)
+        → StandsBetween bytes tried line reported
+    between_below h none = record { apart = h; none = none; refuses = between.refuses }
+
+    pub between_above : (found : Refusal) → above < tried
+        → RefusesIn (first_lines tried bytes) found → StandsBetween bytes above tried found
+    between_above found h refuses =
+        record { apart = h; none = between.none; refuses = refuses }
+
+pub decided : (bytes : List ℕ) (above line : ℕ) (reported : Refusal) → line - above ≤ 1
+    → StandsBetween bytes above line reported
+    → IsFirstRefused bytes (record reported { line = line })
+decided bytes above line reported one between =
+    let refuses = between.refuses in record {
+      above = above;
+      line = omega (arith, between.apart);
+      none = between.none;
+      refuses = (
+        refuses.0,
+        refuses.1,
+        refuses.2,
+        refuses.3,
+        refusal_at _ _ reported line refuses.4,
+      );
+    }

@@ -4,7 +4,8 @@ use Rattle.histories.specs.declared.window.Cut.{Cut}
 use Rattle.histories.specs.declared.window.Cut.TheVariants as cut
 use Rattle.histories.specs.declared.window.Stop.TheVariants as stop
 use Rattle.history_logs.specs.declared.logs.verdict.Verdict.TheVariants.{BadLine}
-use Rattle.history_logs.specs.Logs.{HasGood, IsRefusal, Judged, RefusesNoneIn, StopsAt}
+use Rattle.std.specs.Prelude.{MatchOption}
+use Rattle.history_logs.specs.Logs.{HasGood, IsRefusal, Judged, RefusesIn, RefusesNoneIn, StopsAt}
 use Rattle.histories.specs.Frontier.{IsFrontOf}
 use Rattle.histories.proofs.Counting.{times_at}
 use Rattle.histories.specs.Windows.{IsFirstOrder, IsOrder}
@@ -79,7 +80,8 @@ judged_found bytes services bad (BadLine line e) r f = absurd f.1.2
 -- no reply is refused
 pub refuses_none : (bytes : List ℕ) (services : List Service) (bad : Option (ℕ × Expected))
     → IsReadTo bytes services bad → All NoneRefused services → RefusesNoneIn bytes
-refuses_none bytes services bad r all = (r.count, r.log, r.rest, r.good, rw r.same all)
+refuses_none bytes services bad r all =
+    (r.count, r.log, r.rest, r.good, subst (All NoneRefused) (sym r.same) all)
 
 pub none_right : (services : List Service) → All IsSeenRightly services → All NoneRefused services
 none_right services all = All-weaker IsSeenRightly NoneRefused (λ s is. inl is) services all
@@ -88,6 +90,18 @@ pub none_found : (bytes : List ℕ) (services : List Service) (v : Verdict)
     → AreJudged bytes services (Some v) → is_refused v ≡ false → All NoneRefused services
 none_found bytes services v f is =
     All-weaker (IsNotBefore f.0 v) NoneRefused (λ s before. (rw is at before).1) services f.1.3
+
+-- a reply is refused, or none is
+pub found_refused : (bytes : List ℕ) (services : List Service) (bad : Option (ℕ × Expected))
+    (v : Verdict) (found : Option Refusal) → IsReadTo bytes services bad
+    → AreJudged bytes services (Some v)
+    → MatchOption found (is_refused v ≡ false) (λ reported. v ≡ Refused reported)
+    → MatchOption found (RefusesNoneIn bytes) (RefusesIn bytes)
+found_refused bytes services bad v None r f is =
+    refuses_none bytes services bad r (none_found bytes services v f is)
+found_refused bytes services bad v (Some reported) r f is =
+    judged_found bytes services bad (Refused reported) r
+    (subst (λ (u : Verdict). AreJudged bytes services (Some u)) is f)
 
 -- nothing was found, and no line is bad
 pub judged_conforms : (bytes : List ℕ) (services : List Service) (n m : ℕ)

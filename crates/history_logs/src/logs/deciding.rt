@@ -45,7 +45,9 @@ fn refused_in(alloc: Global, text: &[u8]) -> Result<Option<Refusal>, AllocError>
         (RefusesNoneIn text.now) (RefusesIn text.now)) }
 {
     let (reading, _bad) = read_log(alloc, text, &mut NoProgress)?;
-    match judge_services(alloc, text, &reading.services, Cut::WhereQuiet)? {
+    let judged = judge_services(alloc, text, &reading.services, Cut::WhereQuiet)?;
+    drop(reading);
+    match judged {
         Ok(_) => Ok(None),
         Err(found) => Ok(refusal_of(found)),
     }
@@ -77,8 +79,7 @@ fn first_refused(alloc: Global, log: &[u8], reported: Refusal) -> Result<Refusal
         step = next_step;
         next_step = next_step.saturating_mul(2);
     }
-    found.line = line;
-    Ok(found)
+    Ok(Refusal { line, ..found })
 }
 
 /// The verdict on a log, by what is found in all its good lines.

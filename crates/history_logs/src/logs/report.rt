@@ -250,7 +250,8 @@ fn append_refused(line: usize, reply: usize, out: &mut Vec<u8>) -> Result<(), Al
 {
     append_number(b"line ", line as u64, out)?;
     if reply == line {
-        return out.extend_from_slice(b": no order of the calls explains this reply");
+        out.extend_from_slice(b": no order of the calls explains this reply")?;
+        return Ok(());
     }
     append_number(
         b": with this reply no order of the calls explains that in line ",

@@ -21,10 +21,10 @@ decide-requires c =
     judged_found _ _ _ _ c.requires.read
     (rw (c.in-Err.is, c.deref.ensures.value) at c.in_ok-orders.ensures.found)
 
-pub returns-in-Err-clause-orders : goal.returns-in-Err-clause-orders
-returns-in-Err-clause-orders c =
+pub returns-in_ok-verdict-in-Err-clause-orders : goal.returns-in_ok-verdict-in-Err-clause-orders
+returns-in_ok-verdict-in-Err-clause-orders c =
     λ never. rw c.new-in-Err.ensures.items
-    (c.in_ok-verdict.ensures.orders (no_orders _ _ _ [] (rw c.in-Err.is
+    (c.in_ok-verdict-in-Err.ensures.orders (no_orders _ _ _ [] (rw c.in-Err.is
     at c.in_ok-orders.ensures.found) refl))
 
 pub returns-in-Some-clause-judged : goal.returns-in-Some-clause-judged

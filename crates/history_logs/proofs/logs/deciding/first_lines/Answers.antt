@@ -14,4 +14,5 @@ loop-preserved c =
     before_more _ _ _ _ _ read.0 read.1 c.loop.invariant
 
 pub returns : goal.returns
-returns c = ?
+returns c =
+    before_end _ _ _ _ c.loop.auto.counter-end c.loop-test.false c.loop.invariant
