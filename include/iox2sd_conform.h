@@ -23,7 +23,8 @@ typedef struct iox2sd_conform_answer {
     iox2sd_status status;
     iox2sd_status verdict; /* What the status is with a longer buffer. */
     size_t line;   /* The number of the line that the status is about, from 1 on; 0 where the log
-                    * conforms, and with IOX2SD_STATUS_NO_MEMORY. */
+                    * conforms, and with IOX2SD_STATUS_NO_MEMORY. With IOX2SD_STATUS_NO_ORDER the
+                    * report may be on a reply above it, and begins with the lines of both. */
     size_t calls;  /* The calls of a log that conforms; 0 of another one. */
     size_t length; /* The bytes of the report, also with IOX2SD_STATUS_BUFFER_TOO_SHORT; 0 with
                     * IOX2SD_STATUS_NO_MEMORY. */
@@ -35,9 +36,10 @@ typedef struct iox2sd_conform_answer {
  * Errors: IOX2SD_STATUS_NULL. IOX2SD_STATUS_NO_MEMORY. IOX2SD_STATUS_BUFFER_TOO_SHORT, with `line`,
  * `calls` and `length` as they would be with a longer buffer; then `out` is as it was, and a call
  * with a longer buffer judges the log again from its start. Then IOX2SD_STATUS_NO_ORDER, of the
- * first line whose reply no order of the calls explains. If there is none, of the first line that
- * passes a bound: IOX2SD_STATUS_TOO_MANY_CONFIGURATIONS where orders lead to more than 4,096
- * configurations, IOX2SD_STATUS_TOO_MANY_OPEN_CALLS where more than 64 calls of a service are open.
+ * first line down to which no order of the calls explains what was seen. It has a reply; calls that
+ * are answered below it may have any. If there is none, of the first line that passes a bound:
+ * IOX2SD_STATUS_TOO_MANY_CONFIGURATIONS where orders lead to more than 4,096 configurations,
+ * IOX2SD_STATUS_TOO_MANY_OPEN_CALLS where more than 64 calls of a service are open.
  * Else, of the first line that is not what is expected, or before which the log ends,
  * IOX2SD_STATUS_NO_SERVICE_LINE, IOX2SD_STATUS_NO_CALL_LINE, IOX2SD_STATUS_NO_REPLY_LINE,
  * IOX2SD_STATUS_CALLER_IS_BUSY, IOX2SD_STATUS_NO_OPEN_CALL, IOX2SD_STATUS_CALLER_IS_DEAD,

@@ -131,8 +131,8 @@ private:
 /// What a log was judged to be.
 struct [[nodiscard]] LogVerdict {
     /// `Done` where the log conforms; `NoMemory`; or, as iox2sd_conform.h says in which order,
-    /// `NoOrder` where no order of the calls explains the reply of a line; not decided with
-    /// `TooManyConfigurations`, where orders of the calls lead to more than 4,096, and with
+    /// `NoOrder` where no order of the calls explains what was seen down to a line; not decided
+    /// with `TooManyConfigurations`, where orders of the calls lead to more than 4,096, and with
     /// `TooManyOpenCalls`, where more than 64 calls of a service are open; else `NoServiceLine`,
     /// `NoCallLine`, `NoReplyLine`, `CallerIsBusy`, `NoOpenCall`, `CallerIsDead`, `UnknownCaller`,
     /// `NoNewline`, `CarriageReturn` or `NoStateLine`, as the line is not what is expected.
@@ -143,6 +143,16 @@ struct [[nodiscard]] LogVerdict {
 
     /// What iox2-conform writes; nothing with `NoMemory`.
     IOX2SD_LENDS(std::string_view, report, text);
+
+    /// With `NoOrder`: the line of the reply. It is `line`, or one above it, which no order
+    /// explains with the reply in `line`. Else 0.
+    std::size_t reply_line() const noexcept {
+        if (status != Status::NoOrder) return 0;
+        constexpr std::string_view above = " explains that in line ";
+        const std::string_view first = line_below(0, {});
+        const std::size_t at = first.rfind(above);
+        return at == first.npos ? line : detail::number_of(first.substr(at + above.size()));
+    }
 
     /// With `NoOrder`: the words of the reply that was seen. Else nothing.
     std::string_view words() const& noexcept { return line_below(1, "seen: "); }

@@ -49,6 +49,16 @@ static const char two_in_one_slot[] = "service event 7 1 0 0\n"
                                        "A< handle 0 0\n"
                                        "B< handle 0 1\n";
 
+/* A listing sees a node whose registration is open, until that is answered: there is no room. */
+static const char a_reply_below[] = "service event 7 1 0 0\n"
+                                    "A> register 1.0.0.1\n"
+                                    "B> nodes\n"
+                                    "B< list 1000000000000000000000001\n"
+                                    "# both lines are told\n"
+                                    "A< full\n"
+                                    "nodes\n"
+                                    "= locked\n";
+
 /* A node is registered while it is not known whether another one was: the caller died. */
 static const char died[] = "service event 7 2 0 0\n"
                            "A> register 1.0.0.1\n"
@@ -100,6 +110,17 @@ static const char two_in_one_slot_report[] =
     "made: none\n"
     "possible: full\n"
     "nodes: 1000000000000000000000001\n"
+    "ports:\n";
+
+static const char a_reply_below_report[] =
+    "line 6: with this reply no order of the calls explains that in line 4\n"
+    "seen: list 1000000000000000000000001\n"
+    "call: B> nodes (line 3)\n"
+    "window: from line 2\n"
+    "needed: lines 3\n"
+    "made: none\n"
+    "possible: list\n"
+    "nodes:\n"
     "ports:\n";
 
 static const char three_states_report[] =
@@ -257,6 +278,7 @@ int main(void) {
     buffers(died, "conforms, 3 calls on 1 service\n", IOX2SD_STATUS_DONE, 0, 3);
     buffers(three_states, three_states_report, IOX2SD_STATUS_NO_ORDER, 13, 0);
     buffers(two_in_one_slot, two_in_one_slot_report, IOX2SD_STATUS_NO_ORDER, 5, 0);
+    buffers(a_reply_below, a_reply_below_report, IOX2SD_STATUS_NO_ORDER, 6, 0);
     bad_lines();
     open_calls(64, IOX2SD_STATUS_DONE, "conforms, 64 calls on 1 service\n", 64);
     open_calls(65, IOX2SD_STATUS_TOO_MANY_OPEN_CALLS,
@@ -272,5 +294,6 @@ int main(void) {
     no_memory(refused, 0, IOX2SD_STATUS_BUFFER_TOO_SHORT);
     no_memory(one_slot, MOST, IOX2SD_STATUS_DONE);
     no_memory(three_states, MOST, IOX2SD_STATUS_NO_ORDER);
+    no_memory(a_reply_below, MOST, IOX2SD_STATUS_NO_ORDER);
     return end_of_checks();
 }

@@ -20,9 +20,9 @@ bool is(const LogVerdict& found, Status status, std::size_t line, std::size_t ca
 }
 
 bool has_no_parts(const LogVerdict& found) {
-    return found.words().empty() && found.call() == 0 && found.command().empty() &&
-           found.window() == 0 && found.needed().empty() && found.configurations().empty() &&
-           found.configurations().size() == 0;
+    return found.reply_line() == 0 && found.words().empty() && found.call() == 0 &&
+           found.command().empty() && found.window() == 0 && found.needed().empty() &&
+           found.configurations().empty() && found.configurations().size() == 0;
 }
 
 /// The configuration that is alone.
@@ -82,7 +82,7 @@ void refused(int nodes) {
     const std::size_t line = 2 * static_cast<std::size_t>(nodes) + 5;
     const LogVerdict found = check_log(log + "release 0\n= released\n");
     CHECK(found.status == Status::NoOrder && found.line == line && found.calls == 0);
-    CHECK(found.words() == "released" && found.window() == line);
+    CHECK(found.words() == "released" && found.reply_line() == line && found.window() == line);
     CHECK(found.call() == line - 1 && found.command() == "release 0");
     CHECK((only(found) == Configuration{"", "not-owned", ids, "100000000000000000000000b"}));
     const std::string number = std::to_string(line);
@@ -150,6 +150,19 @@ void open_calls() {
     CHECK(found.needed() == "2 4 6");
     const std::string possible = "list " + std::string(node_1);
     CHECK((only(found) == Configuration{"2", possible, node_1, ""}));
+}
+
+/// A listing sees a node whose registration is open, until a reply says that it was not registered.
+void a_reply_below() {
+    const std::string seen = service + "A> register 1.0.0.1\nB> nodes\nB< list " +
+                             std::string(node_1) + "\n# a note\n";
+    CHECK(is(check_log(seen), Status::Done, 0, 2, "conforms, 2 calls on 1 service\n"));
+    CHECK(check_log(seen + "A< handle 0 0\n").status == Status::Done);
+    const LogVerdict found = check_log(seen + "A< handle 0 5\n");
+    CHECK(found.status == Status::NoOrder && found.line == 6 && found.reply_line() == 4);
+    CHECK(found.words() == "list " + std::string(node_1) && found.window() == 2);
+    CHECK(found.needed() == "2 3" && found.call() == 3 && found.command() == "B> nodes");
+    CHECK((only(found) == Configuration{"", "list", "", ""}));
 }
 
 /// What a LogWriter writes is judged: two threads that overlapped.
@@ -384,6 +397,7 @@ int main() {
     one_slot();
     several_configurations();
     open_calls();
+    a_reply_below();
     written();
     weak_listings();
     configurations_differ();

@@ -69,12 +69,16 @@ class Conforms(Value):
 
 @dataclass(frozen=True, slots=True)
 class NoOrder(_Fails):
-    """Orders of the calls explain what was seen of a service above a reply, and none explains it. It
-    counts as False.
+    """Orders of the calls explain what was seen above a line, and none explains what was seen down
+    to it. It counts as False.
     """
 
     line: int
-    """The number of its line, from 1 on."""
+    """The number of the line, from 1 on. It has a reply. Calls that are answered below it may have
+    any reply."""
+    reply_line: int
+    """The line of the reply that is refused: that line, or one above it, which no order explains
+    with the reply in that line."""
     words: str
     """Its words."""
     call: int
@@ -147,14 +151,18 @@ def check_log(log: Union[str, bytes]) -> Verdict:
 
 
 def _no_order(line: int, report: str) -> NoOrder:
-    """What the lines of a report say, which stand below its first one."""
-    _, words, called, window, needed, *lines, _ = report.split("\n")
+    """What the lines of a report say. The first one names the line of the reply where that is
+    another one.
+    """
+    first, words, called, window, needed, *lines, _ = report.split("\n")
+    _, _, above = first.partition(" explains that in line ")
+    reply_line = int(above) if above else line
     command, _, number = called.removeprefix("call: ").removesuffix(")").rpartition(" (line ")
     told = map(_configuration, lines[::4], lines[1::4], lines[2::4], lines[3::4])
     from_line = int(window.removeprefix("window: from line "))
     begins = tuple(map(int, needed.removeprefix("needed: lines ").split(" ")))
     seen = words.removeprefix("seen: ")
-    return NoOrder(line, seen, int(number), command, from_line, begins, tuple(told))
+    return NoOrder(line, reply_line, seen, int(number), command, from_line, begins, tuple(told))
 
 
 def _configuration(made: str, possible: str, nodes: str, ports: str) -> Configuration:

@@ -27,6 +27,7 @@ PORTS = (publisher(1), subscriber(1), LISTENER, NOTIFIER, SERVER, CLIENT, READER
 EVENT = iox2sd.EventStaticConfig.new()
 
 
+TOLD = iox2sd.Configuration((8,), "list", (NODE,), (1,))
 UNKNOWN = iox2sd.UnknownKey("file", 1, 2, "key", "meant", iox2sd.Likeness.NEAR, "reason")
 
 VALUES: "list[Any]" = [
@@ -35,9 +36,7 @@ VALUES: "list[Any]" = [
     iox2sd.Capacities(1, 2, 3),
     iox2sd.DeadNodeRemoval(iox2sd.DeregisterNodeState.HAS_OWNERS, 1, 2),
     iox2sd.LogCommand.nodes(), iox2sd.LogReply.count(9),
-    iox2sd.Configuration((8,), "list", (NODE,), (1,)),
-    iox2sd.Conforms(9),
-    iox2sd.NoOrder(9, "x", 8, "c", 7, (7,), (iox2sd.Configuration((8,), "list", (NODE,), (1,)),)),
+    TOLD, iox2sd.Conforms(9), iox2sd.NoOrder(9, 9, "x", 8, "c", 7, (7,), (TOLD,)),
     iox2sd.TooManyConfigurations(9),
     iox2sd.TooManyOpenCalls(9),
     iox2sd.UnexpectedLine(9, iox2sd.Expected.REPLY),

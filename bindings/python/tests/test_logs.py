@@ -31,6 +31,18 @@ C< handle 0 0
 last, or after the port was attached and before it is registered."""
 
 
+BELOW = """\
+service event 7 4 2 2
+A> register 1.0.0.1
+B> nodes
+B< list 1000000000000000000000001
+A< handle 0 5
+"""
+"""A listing sees a node whose registration is open, until its reply has a ticket that it cannot
+have.
+"""
+
+
 def told(
     possible: str,
     nodes: "tuple[int, ...]" = (),
@@ -46,6 +58,7 @@ class Logs(unittest.TestCase):
     def test_the_first_log(self):
         found = check_log((CONFORM / "stdin").read_bytes())
         assert isinstance(found, NoOrder)
+        self.assertEqual(found.reply_line, found.line)
         lines = [
             f"line {found.line}: no order of the calls explains this reply",
             f"seen: {found.words}", f"call: {found.command} (line {found.call})",
@@ -97,7 +110,8 @@ class Logs(unittest.TestCase):
             line = 2 * nodes + 5
             one = told("not-owned", (1,) * nodes, (11,))
             found = check_log(log + "release 0\n= released\n")
-            refused = NoOrder(line, "released", line - 1, "release 0", line, (line,), (one,))
+            release = "released", line - 1, "release 0"
+            refused = NoOrder(line, line, *release, line, (line,), (one,))
             self.assertEqual(found, refused)
             self.assertFalse(found)
 
@@ -106,7 +120,7 @@ class Logs(unittest.TestCase):
         self.assertEqual(check_log(both + "A< handle 0 0\nB< full\n"), Conforms(2))
         found = check_log(both + "A< handle 0 0\nB< handle 0 1\n")
         full = (told("full", (1,)),)
-        refused = NoOrder(5, "handle 0 1", 3, "B> register 1.0.0.2", 2, (2, 3), full)
+        refused = NoOrder(5, 5, "handle 0 1", 3, "B> register 1.0.0.2", 2, (2, 3), full)
         self.assertEqual(found, refused)
 
     def test_each_configuration_is_told(self):
@@ -127,14 +141,29 @@ class Logs(unittest.TestCase):
         log = f"A> register 1.0.0.1\nnodes\n= {listed}\nnodes\n= list\n"
         found = check_log(f"service event 7 1 0 0\n{log}")
         made = told(listed, (1,), made=(2,))
-        self.assertEqual(found, NoOrder(6, "list", 5, "nodes", 2, (2, 4, 6), (made,)))
+        self.assertEqual(found, NoOrder(6, 6, "list", 5, "nodes", 2, (2, 4, 6), (made,)))
+
+    def test_a_reply_below_decides(self):
+        log, reply = BELOW.split("A<")
+        for lines in ("", "A< handle 0 0\n", "A!\n"):
+            self.assertEqual(check_log(log + lines), Conforms(2))
+        for above, last, needed in (
+            ("", reply, (2, 3)), ("# a note\n", " handle 4 0\n", (2, 3)),
+            ("\n" * 95, " full\n", (3,)),
+        ):
+            lines = f"{above}A<{last}"
+            line = 4 + lines.count("\n")
+            listed = "list 1000000000000000000000001", 3, "B> nodes"
+            refused = NoOrder(line, 4, *listed, 2, needed, (told("list"),))
+            self.assertEqual(check_log(log + lines), refused)
+            self.assertEqual(check_log(log + lines + "nodes\n= list\n"), refused)
 
     def test_verdicts_differ(self):
         one, another = told("list", (1,), (2,), (2,)), told("list", (2,), (2,), (2,))
-        refused = NoOrder(3, "x", 2, "nodes", 2, (3,), (one,))
+        refused = NoOrder(3, 3, "x", 2, "nodes", 2, (3,), (one,))
         told_otherwise = [
-            {"line": 4}, {"words": "y"}, {"call": 3}, {"command": "list"}, {"window": 3},
-            {"needed": (2, 3)},
+            {"line": 4}, {"reply_line": 2}, {"words": "y"}, {"call": 3}, {"command": "list"},
+            {"window": 3}, {"needed": (2, 3)},
             *({"configurations": found} for found in [
                 (one, one), (another,), (dataclasses.replace(one, possible="count 1"),),
                 (dataclasses.replace(one, made=()),), (dataclasses.replace(one, ports=()),)]),
@@ -155,7 +184,7 @@ class Logs(unittest.TestCase):
                 self.assertTrue(verdict != other and not verdict == other)
 
     def test_verdicts_are_no_tuples(self):
-        for verdict in (Conforms(3), NoOrder(3, "x", 3, "nodes", 3, (3,), ()),
+        for verdict in (Conforms(3), NoOrder(3, 3, "x", 3, "nodes", 3, (3,), ()),
                         TooManyOpenCalls(3)):
             self.assertNotIsInstance(verdict, tuple)
             field, *_ = dataclasses.fields(verdict)

@@ -42,7 +42,7 @@ pub enum Verdict {
         /// How many calls there are.
         calls: usize,
     },
-    /// Orders explain what was seen of the service above this reply, and none explains it.
+    /// Orders explain what was seen above a line, and none explains what was seen down to it.
     NoOrder(Refusal),
     /// Not decided: orders of the calls lead to more than 4,096 configurations.
     TooManyConfigurations {
@@ -74,12 +74,21 @@ pub enum Verdict {
 /// assert_eq!((refusal.line, refusal.words.as_str(), refusal.window), (5, "locked", 5));
 /// assert_eq!((refusal.call, refusal.command.as_str()), (4, "register 1.0.0.1"));
 /// assert_eq!((refusal.needed, refusal.configurations[0].possible.as_str()), (vec![5], "full"));
+///
+/// // The list is explained, until the reply to A says that no node was registered.
+/// let log = "service event 7 1 0 0\nA> register 0.0.0.1\nnodes\n= list 1\nA< full\n";
+/// let Verdict::NoOrder(refusal) = check_log(log)? else { panic!("an order explains it") };
+/// assert_eq!((refusal.line, refusal.reply_line, refusal.words.as_str()), (5, 4, "list 1"));
 /// # Ok::<(), iox2sd::dynamic_config::AllocError>(())
 /// ```
 #[derive(Clone, Debug, PartialEq, Eq, Hash)]
 pub struct Refusal {
-    /// The number of its line, from 1 on.
+    /// The first line down to which no order explains what was seen, from 1 on. It has a reply.
+    /// Calls that are answered below it may have any reply.
     pub line: usize,
+    /// The line of the reply: that line, or one above it, which no order explains with the reply in
+    /// that line.
+    pub reply_line: usize,
     /// Its words.
     pub words: String,
     /// The line of the command of its call: that in which the call begins, but of a call alone.
@@ -222,6 +231,7 @@ impl Verdict {
     /// assert!(refused.to_string().starts_with("line 2: "));
     /// # Ok::<(), Box<dyn std::error::Error>>(())
     /// ```
+    #[allow(clippy::result_large_err)] // The parts of a report are owned, and none is boxed.
     pub fn into_result(self) -> Result<usize, Verdict> {
         match self {
             Verdict::Conforms { calls } => Ok(calls),
@@ -266,16 +276,20 @@ impl fmt::Display for Refusal {
         let possible = Vec::from_iter(possible).join("; or: ");
         let Refusal {
             line,
+            reply_line,
             words,
             call,
             command,
             ..
         } = self;
+        let seen = if reply_line == line {
+            format!("line {line}: seen: {words}")
+        } else {
+            format!("line {line}: seen in line {reply_line}: {words}")
+        };
         padded(
             f,
-            format_args!(
-                "line {line}: seen: {words}; call: {command} (line {call}); possible: {possible}"
-            ),
+            format_args!("{seen}; call: {command} (line {call}); possible: {possible}"),
         )
     }
 }
@@ -289,16 +303,20 @@ fn at_line(f: &mut fmt::Formatter<'_>, line: usize, status: u32) -> fmt::Result 
 }
 
 impl Refusal {
-    /// What the lines of a report say, which stand below its first one.
+    /// What the lines of a report say. The first one names the line of the reply where that is
+    /// another one.
     fn of(line: usize, report: &str) -> Self {
-        let mut lines = report.split_terminator('\n').skip(1);
+        let mut lines = report.split_terminator('\n');
         let mut next = || lines.next().unwrap_or_default();
+        let above = next().split_once(" explains that in line ");
+        let reply_line = above.map_or(line, |(_, above)| number(above));
         let words = after("seen: ", next()).to_string();
         let called = after("call: ", next()).strip_suffix(')');
         let called = called.and_then(|called| called.rsplit_once(" (line "));
         let (command, call) = called.expect("the library writes a command and its line");
         Refusal {
             line,
+            reply_line,
             words,
             call: number(call),
             command: command.to_string(),

@@ -35,6 +35,7 @@ fn no_order(
 ) -> Verdict {
     Verdict::NoOrder(Refusal {
         line,
+        reply_line: line,
         words: words.to_string(),
         call,
         command: command.to_string(),
@@ -154,6 +155,29 @@ fn open_calls_are_told_by_their_lines() {
     assert_eq!(found, Ok(refused));
 }
 
+/// A listing sees a node whose registration is open, until a reply says that it was not registered.
+#[test]
+fn a_reply_below_decides() {
+    let listed = "list 1000000000000000000000001";
+    let with = |calls: &str| {
+        let open = "A> register 1.0.0.1\nB> nodes\n";
+        check_log(&format!("{SERVICE}{open}B< {listed}\n{calls}"))
+    };
+    assert_eq!(with("A< handle 0 0\n"), Ok(Verdict::Conforms { calls: 2 }));
+    assert_eq!(with(""), Ok(Verdict::Conforms { calls: 2 }));
+    let each = vec![told(&[], "list", &[], &[])];
+    let refused = no_order((4, listed), (3, "B> nodes"), &[2, 3], each);
+    let Verdict::NoOrder(mut refusal) = refused else {
+        unreachable!()
+    };
+    refusal.line = 6;
+    let found = with("# a note\nA< handle 0 5\n");
+    let text = "line 6: seen in line 4: list 1000000000000000000000001; call: B> nodes (line 3); \
+                possible: list";
+    assert_eq!(refusal.to_string(), text);
+    assert_eq!(found, Ok(Verdict::NoOrder(refusal)));
+}
+
 #[test]
 fn at_most_64_calls_are_open() {
     let open = |calls: usize| {
@@ -196,6 +220,10 @@ fn at_most_4096_configurations_are_followed() {
 fn verdicts_differ_by_each_field() {
     let one = told(&[2], "list", &[1], &[2]);
     let refusal = |told| no_order((3, "x"), (2, "c"), &[2, 3], vec![told]);
+    let Verdict::NoOrder(mut above) = refusal(one.clone()) else {
+        unreachable!()
+    };
+    above.reply_line = 2;
     let bad = |expected| Verdict::BadLine { line: 3, expected };
     let different = [
         no_order((4, "x"), (2, "c"), &[2, 3], vec![one.clone()]),
@@ -205,6 +233,7 @@ fn verdicts_differ_by_each_field() {
         no_order((3, "x"), (2, "c"), &[3], vec![one.clone()]),
         no_order((3, "x"), (2, "c"), &[2, 4], vec![one.clone()]),
         no_order((3, "x"), (2, "c"), &[2, 3], vec![one.clone(), one.clone()]),
+        Verdict::NoOrder(above),
         refusal(told(&[], "list", &[1], &[2])),
         refusal(told(&[2], "count 1", &[1], &[2])),
         refusal(told(&[2], "list", &[2], &[2])),

@@ -28,9 +28,9 @@ in the order of time. `A> COMMAND` begins a call of the caller A, `A< WORDS` end
 that was seen, and `A!` says that A died. A command with `= WORDS` below it is a call that overlaps
 nothing. Where there are several services, `7: ` before a command or a begin names the one with the
 number 7. Writes whether an order of the calls, each between its begin and its end, explains all
-replies by the sequential specification. If not, it writes the first reply that none explains, its
-call, the line from which calls overlap, each reply that the call could have had, and who was
-attached then.
+replies by the sequential specification. If not, it writes the first line down to which none does,
+and of the reply that none explains then, in that line or above it: its call, the line from which
+calls overlap, each reply that the call could have had, and who was attached then.
 
   svg        write a picture instead: the calls that overlap the refused reply, or all calls of a
              log that conforms, with the points at which they took effect

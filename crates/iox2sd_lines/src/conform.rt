@@ -84,7 +84,7 @@ fn conforming_calls(verdict: &Verdict) -> usize
 ///
 /// Refused are, in this order, want of memory (`NoMemory`); too short a buffer (`BufferTooShort`),
 /// and a call with a longer one judges the log again from its start; and a log that does not
-/// conform: by the first line with a reply that no order explains (`NoOrder`) or with which a bound
+/// conform: by the first line down to which no order explains it (`NoOrder`) or with which a bound
 /// is passed (`TooManyConfigurations`, `TooManyOpenCalls`), or else by the first line that is not
 /// what is expected (`NoServiceLine`, `NoCallLine`, `NoReplyLine`, `CallerIsBusy`, `NoOpenCall`,
 /// `CallerIsDead`, `UnknownCaller`, `NoNewline`, `CarriageReturn`, `NoStateLine`).
