@@ -99,7 +99,8 @@ none_refused bytes =
         text = [];
         read = nothing log refl (λ name. refl) refl;
         spelled = no_lines bytes;
-        ends = λ first after none is. absurd (omega (arith, ap length is, length-append first (10 ∷ after)));
+        ends = λ first after none is.
+            absurd (omega (arith, ap length is, length-append first (10 ∷ after)));
       },
       All-nil NoneRefused,
     )

@@ -268,8 +268,8 @@ services_in services =
 -- The log may be judged so.
 -- Conforms: all its lines are good, no call waits for its reply, there is a service, and of each an
 -- order of the calls explains what was seen.
--- Refused: what is seen of a service in the lines down to this one is not explained; what is seen of
--- each in the lines above it is, or passes a bound.
+-- Refused: what is seen of a service in the lines down to this one is not explained; what is seen
+-- of each in the lines above it is, or passes a bound.
 -- ManyConfigs, ManyOpen: what is seen of all services is explained above this line, which passes a
 -- bound; in the good lines no reply is refused.
 -- BadLine: what is seen of all services in the good lines is explained, and the line after them is

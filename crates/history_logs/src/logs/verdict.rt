@@ -53,7 +53,7 @@ pub struct Refusal {
     /// for services that pass a bound there. It has a reply.
     pub line: usize,
     /// The line of the reply that is reported, which no order explains with the replies down to
-    /// `line`. It is that line, or one above it: a call that was open there has its reply in `line`.
+    /// `line`. It is that line, or one above, where a call was open that has its reply in `line`.
     pub reply: usize,
     /// Its words.
     pub words: Vec<u8>,
@@ -79,8 +79,8 @@ pub enum Verdict {
     /// Orders of the calls explain all replies: so many calls, on so many services.
     Conforms(usize, usize),
     /// Orders explain what is above a line, and none explains what is seen down to it. It is the
-    /// first such line, also where a bound was passed above it on another service, or before its own
-    /// one began anew.
+    /// first such line, also where a bound was passed above it on another service, or before its
+    /// own one began anew.
     Refused(Refusal),
     /// At this line more than `histories::MAX_CONFIGS` configurations were to be followed: not
     /// decided. No reply is refused on another service, or below it, where the service began anew.
