@@ -2,6 +2,7 @@
 
 use config_report::check_file;
 use std::process::Abort;
+use test_support::printing::is_printed_as;
 
 /// A file with one unknown key, and what is said of it. The second to the ninth misspell a key: a
 /// letter is dropped, doubled, swapped with the next one; `-` is `_`; letters are capital; the key
@@ -100,10 +101,7 @@ fn misspelt_keys_have_a_proposal(rt: HostRuntime) {
         let found = check_file(rt.alloc(), file.as_bytes()).expect(&rt, "memory");
         assert!(rt; found.config.is_some());
         match found.list.first() {
-            Some(finding) => {
-                let line = format!(in rt.alloc(); "{finding}").expect(&rt, "memory");
-                assert_eq!(rt; line.as_str(), *want);
-            }
+            Some(finding) => assert!(rt; is_printed_as(finding, want)),
             None => panic!(rt; "nothing is found"),
         }
         assert_eq!(rt; found.list.len(), 1);
@@ -125,8 +123,7 @@ fn all_that_is_found_comes_in_the_order_of_the_file(rt: HostRuntime) {
     assert!(rt; found.config.is_none());
     assert_eq!(rt; found.list.len(), want.len());
     for (finding, line) in found.list.iter().zip(want.iter()) {
-        let text = format!(in rt.alloc(); "{finding}").expect(&rt, "memory");
-        assert_eq!(rt; text.as_str(), *line);
+        assert!(rt; is_printed_as(finding, line));
     }
 }
 
@@ -159,8 +156,7 @@ fn a_file_that_is_too_deep_is_refused_with_its_position(rt: HostRuntime) {
         assert!(rt; found.config.is_none());
         assert_eq!(rt; found.list.len(), 1);
         for finding in &found.list {
-            let text = format!(in rt.alloc(); "{finding}").expect(&rt, "memory");
-            assert_eq!(rt; text.as_str(), *want);
+            assert!(rt; is_printed_as(finding, want));
         }
     }
 }

@@ -80,14 +80,14 @@ fn said(alloc: Global, bytes: &[u8]) -> Result<(u8, Vec<u8>), AllocError> {
     Ok((status, output))
 }
 
-/// A file with a suffix of so many bytes, beside which the prefix has 5 and the hash text 27.
-fn suffixed(alloc: Global, length: usize) -> Result<String, AllocError> {
+/// What is said of a suffix of so many bytes, beside which the prefix has 5 and the hash text 27.
+fn said_of_suffix(alloc: Global, length: usize) -> Result<(u8, Vec<u8>), AllocError> {
     let mut text = String::from_str(alloc, "global.service.blackboard-mgmt-suffix = '")?;
     for _ in 0..length {
         text.push('s')?;
     }
     text.push_str("'\n")?;
-    Ok(text)
+    said(alloc, text.as_bytes())
 }
 
 #[test]
@@ -115,14 +115,12 @@ fn near_misses_are_not_reported(rt: HostRuntime) -> Result<(), Fail> {
 /// Names of 255 bytes can be made, and those of 256 cannot.
 #[test]
 fn long_names_are_reported(rt: HostRuntime) -> Result<(), Fail> {
-    let fits = suffixed(rt.alloc(), 223)?;
-    let (status, output) = said(rt.alloc(), fits.as_bytes())?;
+    let (status, output) = said_of_suffix(rt.alloc(), 223)?;
     assert_eq!(rt;
         (status, output.as_slice()),
         (0, b"0 errors, 0 warnings\n".as_slice())
     );
-    let long = suffixed(rt.alloc(), 224)?;
-    let (status, output) = said(rt.alloc(), long.as_bytes())?;
+    let (status, output) = said_of_suffix(rt.alloc(), 224)?;
     let end =
         b"s\", and global.prefix is \"iox2_\": with a hash text of 27 bytes between them, names \
         of files have more than 255 bytes\n0 errors, 1 warning\n";
@@ -130,20 +128,26 @@ fn long_names_are_reported(rt: HostRuntime) -> Result<(), Fail> {
     Ok(())
 }
 
-/// Both files of a comparison are looked at, and an object of JSON has the same words.
-#[test]
-fn contradictions_are_in_all_forms(rt: HostRuntime) -> Result<(), Fail> {
+/// What is said of two files with one contradiction.
+fn said_of_two(alloc: Global, words: &[&str]) -> Result<(u8, Vec<u8>), AllocError> {
     let files = Known(&[
         ("a", b"defaults.event.max-nodes = 0\n"),
         ("b", b"\ndefaults.event.max-nodes = 0\n"),
     ]);
-    let (status, output, _) = run(rt.alloc(), false, &["--compare", "a", "b"], files, b"")?;
+    let (status, output, _) = run(alloc, false, words, files, b"")?;
+    Ok((status, output))
+}
+
+/// Both files of a comparison are looked at, and an object of JSON has the same words.
+#[test]
+fn contradictions_are_in_all_forms(rt: HostRuntime) -> Result<(), Fail> {
+    let (status, output) = said_of_two(rt.alloc(), &["--compare", "a", "b"])?;
     let expected =
         b"a:1:1: warning: defaults.event.max-nodes: is 0: with this limit no service of the \
         pattern can be used\nb:2:1: warning: defaults.event.max-nodes: is 0: with this limit no \
         service of the pattern can be used\n0 errors, 2 warnings\n";
     assert_eq!(rt; (status, output.as_slice()), (0, expected.as_slice()));
-    let (_, output, _) = run(rt.alloc(), false, &["--format", "json", "a"], files, b"")?;
+    let (_, output) = said_of_two(rt.alloc(), &["--format", "json", "a"])?;
     let expected = b"{\"column\":1,\"file\":\"a\",\"key\":\"defaults.event.max-nodes\",\"line\":1,\
         \"message\":\"is 0: with this limit no service of the pattern can be used\",\
         \"severity\":\"warning\"}\n";

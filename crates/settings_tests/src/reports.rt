@@ -191,23 +191,28 @@ fn no_name_is_a_command_to_a_terminal(rt: HostRuntime) -> Result<(), Fail> {
     Ok(())
 }
 
+/// What a run writes to its output.
+fn written(
+    alloc: Global,
+    coloured: bool,
+    words: &[&str],
+    input: &[u8],
+) -> Result<Vec<u8>, AllocError> {
+    let (_, output, _) = run(alloc, coloured, words, FILES, input)?;
+    Ok(output)
+}
+
 /// Lines are in colour on a terminal, and objects of JSON are not.
 #[test]
 fn colours_are_those_of_findings(rt: HostRuntime) -> Result<(), Fail> {
-    let (_, output, _) = run(
-        rt.alloc(),
-        true,
-        &["-"],
-        FILES,
-        b"x = 1\n[global]\nprefix = ''\n",
-    )?;
+    let output = written(rt.alloc(), true, &["-"], b"x = 1\n[global]\nprefix = ''\n")?;
     let expected = b"\x1b[33m-:1:1: warning: x: this table has no such key\x1b[0m\n\
         \x1b[31m-:3:1: error: global.prefix: is no name of a file: it is empty\x1b[0m\n\
         1 error, 1 warning; contradictions are looked for in files without errors\n";
     assert_eq!(rt; output.as_slice(), expected.as_slice());
     let json = ["--format", "json", "doubtful.toml"];
-    let plain = run(rt.alloc(), false, &json, FILES, b"")?;
-    let coloured = run(rt.alloc(), true, &json, FILES, b"")?;
-    assert_eq!(rt; plain.1.as_slice(), coloured.1.as_slice());
+    let plain = written(rt.alloc(), false, &json, b"")?;
+    let coloured = written(rt.alloc(), true, &json, b"")?;
+    assert_eq!(rt; plain.as_slice(), coloured.as_slice());
     Ok(())
 }

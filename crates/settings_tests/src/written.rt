@@ -6,6 +6,7 @@ use iox2_config_file::{
 use iox2_texts::paths::{FileName, Path};
 use std::process::Abort;
 use std::time::Duration;
+use test_support::printing::is_printed_as;
 
 /// Parts of the text of the default settings, in their order.
 const PARTS: [&str; 8] = [
@@ -200,11 +201,11 @@ fn the_greatest_values_come_back(rt: HostRuntime) {
     assert!(rt; comes_back(&rt, &config));
 }
 
-/// What the error on a configuration prints.
-fn refusal(rt: &(impl Abort + AllocGlobal), config: &Config) -> String {
+/// The error on a configuration prints this.
+fn is_refused(rt: &(impl Abort + AllocGlobal), config: &Config, text: &str) {
     match write_config(rt.alloc(), config) {
         Ok(_) => panic!(rt; "the configuration is written"),
-        Err(error) => format!(in rt.alloc(); "{error}").expect(rt, "memory"),
+        Err(error) => assert!(rt; is_printed_as(&error, text)),
     }
 }
 
@@ -212,14 +213,17 @@ fn refusal(rt: &(impl Abort + AllocGlobal), config: &Config) -> String {
 fn numbers_that_toml_does_not_have_are_refused(rt: HostRuntime) {
     let mut config = Config::default();
     config.defaults.blackboard.max_nodes = 1 << 63;
-    assert_eq!(rt;
-        refusal(&rt, &config).as_str(),
-        "defaults.blackboard.max-nodes: is above 9223372036854775807, the greatest integer of TOML"
+    is_refused(
+        &rt,
+        &config,
+        "defaults.blackboard.max-nodes: is above 9223372036854775807, the greatest integer of TOML",
     );
     config.defaults.event.notifier_created_event = Some(18_446_744_073_709_551_615);
-    assert_eq!(rt;
-        refusal(&rt, &config).as_str(),
-        "defaults.event.notifier-created-event: is above 9223372036854775807, the greatest integer of TOML"
+    is_refused(
+        &rt,
+        &config,
+        "defaults.event.notifier-created-event: is above 9223372036854775807, \
+         the greatest integer of TOML",
     );
     config.global.creation_timeout = Duration::new(1 << 63, 0);
     let first = matches!(

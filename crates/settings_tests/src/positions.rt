@@ -2,6 +2,7 @@
 //! quotes, and files that are none.
 
 use config_report::{ReportError, read_file};
+use std::alloc::{AllocError, Global};
 use std::process::Abort;
 use std::test::Fail;
 
@@ -89,29 +90,40 @@ fn reported(rt: &(impl Abort + AllocGlobal), file: &[u8]) -> String {
     }
 }
 
+/// This is reported of a file.
+fn is_reported(rt: &(impl Abort + AllocGlobal), file: &[u8], want: &str) {
+    let lines = reported(rt, file);
+    assert_eq!(rt; lines.as_str(), want);
+}
+
 #[test]
 fn what_is_wrong_is_reported_with_its_position(rt: HostRuntime) {
     for (file, want) in &REPORTED {
-        let lines = reported(&rt, file);
-        assert_eq!(rt; lines.as_str(), *want);
+        is_reported(&rt, file, want);
     }
+}
+
+/// A file with 3,971 lines of 33 bytes and these last ones.
+fn large_file(alloc: Global, last: &str) -> Result<String, AllocError> {
+    let mut file = "# a line of thirty-two bytes ...\n".repeat(alloc, 3_971)?;
+    file.push_str(last)?;
+    Ok(file)
 }
 
 /// In a file of more than 128 KiB no positions are searched for.
 #[test]
 fn a_large_file_is_reported_without_positions(rt: HostRuntime) -> Result<(), Fail> {
-    let mut file = "# a line of thirty-two bytes ...\n".repeat(rt.alloc(), 3_971)?;
-    file.push_str("size = 1\n")?;
-    let lines = reported(&rt, file.as_str().as_bytes());
-    assert_eq!(rt;
-        lines.as_str(),
-        "3972:1: warning: size: this table has no such key\n"
+    let file = large_file(rt.alloc(), "size = 1\n")?;
+    is_reported(
+        &rt,
+        file.as_str().as_bytes(),
+        "3972:1: warning: size: this table has no such key\n",
     );
-    file.push_str("#23456789 123456789 123456789\n")?;
-    let lines = reported(&rt, file.as_str().as_bytes());
-    assert_eq!(rt;
-        lines.as_str(),
-        "warning: size: this table has no such key\n"
+    let larger = large_file(rt.alloc(), "size = 1\n#23456789 123456789 123456789\n")?;
+    is_reported(
+        &rt,
+        larger.as_str().as_bytes(),
+        "warning: size: this table has no such key\n",
     );
     Ok(())
 }

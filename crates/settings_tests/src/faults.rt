@@ -1,5 +1,6 @@
 use iox2_config_file::{ConfigFileError, Section, read_config};
 use std::process::Abort;
+use test_support::printing::is_printed_as;
 
 /// A file, and what its first fault prints.
 const FAULTS: [(&str, &str); 18] = [
@@ -80,10 +81,7 @@ const FAULTS: [(&str, &str); 18] = [
 fn prints(rt: &(impl Abort + AllocGlobal), text: &str, want: &str) -> bool {
     let read = read_config(rt.alloc(), text).expect(rt, "a file");
     match read.faults.first() {
-        Some(fault) => {
-            let printed = format!(in rt.alloc(); "{fault}").expect(rt, "memory for a text");
-            read.config.is_none() && printed.as_str() == want
-        }
+        Some(fault) => read.config.is_none() && is_printed_as(fault, want),
         None => false,
     }
 }
