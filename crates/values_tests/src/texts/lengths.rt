@@ -1,12 +1,12 @@
 //! What is printed at every length, and of the longest faults.
 
-use crate::printing::text_of;
 use iox2_texts::attribute::{AttributeKey, AttributeValue, AttributeVerificationError};
 use iox2_texts::bounded::StaticString;
 use iox2_texts::paths::{FileName, FilePath, Path, RestrictedFileName};
 use iox2_texts::service_name::ServiceName;
 use std::fmt::{Debug, Display};
 use std::process::Abort;
+use test_support::printing::is_printed_as;
 
 const LONGEST: [u8; 256] = [b'a'; 256];
 
@@ -20,7 +20,8 @@ fn is_printed_up_to<T: Display + Debug + Drop>(
 ) {
     assert_eq!(rt; made.is_some(), bytes.len() <= most);
     if let Some(value) = made {
-        assert_eq!(rt; text_of(rt, &value).as_bytes(), bytes);
+        let text = str::from_utf8(bytes).expect(rt, "a text");
+        assert!(rt; is_printed_as(&value, text));
         assert!(rt; format!(in rt.alloc(); "{value:?}").is_ok());
     }
 }
@@ -56,26 +57,32 @@ fn names_of_services_are_printed_at_every_length(rt: HostRuntime) {
     }
 }
 
+/// The fault of a missing key is printed with the key.
+fn missing_is_printed(rt: &(impl Abort + AllocGlobal), key: AttributeKey) {
+    let text = format!(in rt.alloc(); "AttributeVerificationError::NonExistingKey(\"{key}\")");
+    let missing = AttributeVerificationError::NonExistingKey(key);
+    assert!(rt; is_printed_as(&missing, text.expect(rt, "memory").as_str()));
+}
+
+/// The fault of a missing pair is printed with the pair.
+fn incompatible_is_printed(
+    rt: &(impl Abort + AllocGlobal),
+    key: AttributeKey,
+    value: AttributeValue,
+) {
+    let text = format!(in rt.alloc();
+        "AttributeVerificationError::IncompatibleAttribute((\"{key}\", \"{value}\"))"
+    );
+    let other = AttributeVerificationError::IncompatibleAttribute((key, value));
+    assert!(rt; is_printed_as(&other, text.expect(rt, "memory").as_str()));
+}
+
 #[test]
 fn faults_are_printed_at_every_length(rt: HostRuntime) {
     for length in 1..=LONGEST.len() {
         let key = AttributeKey::new(&LONGEST[..length.min(64)]).expect(&rt, "a key");
         let value = AttributeValue::new(&LONGEST[..length]).expect(&rt, "a value");
-        let (key_text, value_text) = (text_of(&rt, &key), text_of(&rt, &value));
-        let missing = AttributeVerificationError::NonExistingKey(key.copied());
-        let other = AttributeVerificationError::IncompatibleAttribute((key, value));
-        let missing_text = format!(in rt.alloc();
-            "AttributeVerificationError::NonExistingKey(\"{key_text}\")"
-        );
-        let other_text = format!(in rt.alloc();
-            "AttributeVerificationError::IncompatibleAttribute((\"{key_text}\", \"{value_text}\"))"
-        );
-        assert_eq!(rt;
-            (text_of(&rt, &missing), text_of(&rt, &other)),
-            (
-                missing_text.expect(&rt, "memory"),
-                other_text.expect(&rt, "memory")
-            )
-        );
+        missing_is_printed(&rt, key.copied());
+        incompatible_is_printed(&rt, key, value);
     }
 }

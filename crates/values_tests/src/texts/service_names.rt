@@ -1,4 +1,3 @@
-use crate::printing::text_of;
 use iox2_texts::bounded::StringModificationError;
 use iox2_texts::laws::service_names_go_by_bytes;
 use iox2_texts::service_name::{
@@ -8,6 +7,7 @@ use std::cmp::Ordering;
 use std::hash::DefaultHasher;
 use std::process::Abort;
 use std::str;
+use test_support::printing::is_printed_as;
 
 fn name(rt: &impl Abort, text: &str) -> ServiceName {
     ServiceName::new(text).expect(rt, "a name")
@@ -88,7 +88,7 @@ fn other_bytes_than_ascii_are_refused(rt: HostRuntime) {
 fn longest_name_prints_whole(rt: HostRuntime) {
     let letters = [b'a'; 255];
     let longest = name(&rt, text(&rt, &letters));
-    assert_eq!(rt; text_of(&rt, &longest).as_str(), text(&rt, &letters));
+    assert!(rt; is_printed_as(&longest, text(&rt, &letters)));
 }
 
 #[test]
@@ -111,12 +111,12 @@ fn prefix_counts_for_the_length(rt: HostRuntime) {
 fn name_is_its_text(rt: HostRuntime) {
     let name = name(&rt, "a");
     assert_eq!(rt;
-        (
+        [
             name.equals_str("a"),
             name.equals_str("A"),
-            text_of(&rt, &name).as_str()
-        ),
-        (true, false, "a")
+            is_printed_as(&name, "a")
+        ],
+        [true, false, true]
     );
     assert!(rt; name.copied() == name);
 }
@@ -136,12 +136,9 @@ fn errors_print_their_path(rt: HostRuntime) {
     let length = ServiceNameError::from(StringModificationError::InsertWouldExceedCapacity);
     assert_eq!(rt;
         [
-            text_of(&rt, &content).as_str(),
-            text_of(&rt, &length).as_str()
+            is_printed_as(&content, "ServiceNameError::InvalidContent"),
+            is_printed_as(&length, "ServiceNameError::ExceedsMaximumLength"),
         ],
-        [
-            "ServiceNameError::InvalidContent",
-            "ServiceNameError::ExceedsMaximumLength",
-        ]
+        [true; 2]
     );
 }

@@ -1,11 +1,10 @@
 //! Ids.
-use crate::printing::text_of;
 use iox2_ids::identifiers::*;
 use iox2_ids::laws::*;
 use std::cmp::Ordering;
 use std::hash::DefaultHasher;
 use std::process::Abort;
-use test_support::printing::{is_printed_and_shown, is_shown};
+use test_support::printing::{is_printed_and_shown, is_printed_as, is_shown};
 
 #[test]
 fn node_ids_have_parts_and_a_text(rt: HostRuntime) {
@@ -16,7 +15,6 @@ fn node_ids_have_parts_and_a_text(rt: HostRuntime) {
             id.pid().value(),
             id.creation_time(),
             id.owner_id(),
-            text_of(&rt, &id).as_str(),
             Hexadecimal::new(id.value()).as_bytes(),
             Hexadecimal::parse(b"1000000020000000300000004"),
         ),
@@ -25,17 +23,14 @@ fn node_ids_have_parts_and_a_text(rt: HostRuntime) {
             1,
             Time::new(2, 3),
             4294967300,
-            "1000000020000000300000004",
             b"1000000020000000300000004".as_slice(),
             Some(0x1_00000002_00000003_00000004),
         )
     );
+    assert!(rt; is_printed_as(&id, "1000000020000000300000004"));
     let most = u32::MAX;
     let greatest = UniqueNodeId::new(most, most, most, most).expect(&rt, "an id");
-    assert_eq!(rt;
-        text_of(&rt, &greatest).as_str(),
-        "ffffffffffffffffffffffffffffffff"
-    );
+    assert!(rt; is_printed_as(&greatest, "ffffffffffffffffffffffffffffffff"));
 }
 
 #[test]
@@ -76,9 +71,9 @@ fn parts_at_their_edges_stay_apart(rt: HostRuntime) {
                 id.pid().value(),
                 time.seconds(),
                 time.nanoseconds(),
-                text_of(&rt, &id).as_str()
+                is_printed_as(&id, text)
             ),
-            (number, process, seconds as u64, nanoseconds, text)
+            (number, process, seconds as u64, nanoseconds, true)
         );
     }
 }
@@ -181,20 +176,21 @@ fn ids_fail_with_their_writer(rt: HostRuntime) {
     );
 }
 
+/// An id of a node and one of a port with these parts are printed as this text.
+fn are_printed_as(rt: &impl Abort, process: u32, text: &str) {
+    let node = UniqueNodeId::new(process, 2, 3, 4).expect(rt, "an id");
+    let port = UniquePublisherId::new(process, 2, 3, 4);
+    assert_eq!(rt;
+        [is_printed_as(&node, text), is_printed_as(&port, text)],
+        [true; 2]
+    );
+}
+
 #[test]
 fn ids_are_printed_of_many_processes(rt: HostRuntime) {
-    for process in 0..=300 {
-        let node = UniqueNodeId::new(process, 2, 3, 4).expect(&rt, "an id");
-        let port = UniquePublisherId::new(process, 2, 3, 4);
-        let front = if process == 0 {
-            String::new(rt.alloc())
-        } else {
-            format!(in rt.alloc(); "{process:x}0000000").expect(&rt, "memory")
-        };
-        let text = format!(in rt.alloc(); "{front}20000000300000004").expect(&rt, "memory");
-        assert_eq!(rt;
-            [text_of(&rt, &node).as_str(), text_of(&rt, &port).as_str()],
-            [text.as_str(); 2]
-        );
+    are_printed_as(&rt, 0, "20000000300000004");
+    for process in 1..=300 {
+        let text = format!(in rt.alloc(); "{process:x}000000020000000300000004");
+        are_printed_as(&rt, process, text.expect(&rt, "memory").as_str());
     }
 }

@@ -1,11 +1,11 @@
 //! What errors print.
-use crate::printing::text_of;
 use iox2_texts::attribute::{
     AttributeDefinitionError, AttributeKey, AttributeValue, AttributeVerificationError,
 };
 use iox2_texts::service_name::ServiceNameError;
 use std::error::Error;
 use std::process::Abort;
+use test_support::printing::is_printed_as;
 
 fn key(rt: &impl Abort, bytes: &[u8]) -> AttributeKey {
     AttributeKey::new(bytes).expect(rt, "a key")
@@ -16,15 +16,15 @@ fn pair(rt: &impl Abort, k: &[u8], v: &[u8]) -> AttributeVerificationError {
     AttributeVerificationError::IncompatibleAttribute((key(rt, k), value))
 }
 
-/// The text of what is known to be an error alone.
-fn reported(rt: &(impl Abort + AllocGlobal), error: &impl Error) -> String {
-    text_of(rt, error)
+/// Whether what is known to be an error alone prints this text.
+fn is_reported_as(error: &impl Error, text: &str) -> bool {
+    is_printed_as(error, text)
 }
 
 #[test]
 fn longest_fault_prints_whole(rt: HostRuntime) {
     let fault = pair(&rt, &[b'k'; 64], &[b'v'; 256]);
-    let text = reported(&rt, &fault);
+    let text = format!(in rt.alloc(); "{fault}").expect(&rt, "memory");
     // The path, `(("`, the key, `", "`, the value and `"))`.
     assert_eq!(rt; text.as_str().len(), 49 + 3 + 64 + 4 + 256 + 3);
 }
@@ -33,16 +33,15 @@ fn longest_fault_prints_whole(rt: HostRuntime) {
 fn errors_are_errors(rt: HostRuntime) {
     assert_eq!(rt;
         [
-            reported(&rt, &ServiceNameError::InvalidContent).as_str(),
-            reported(
-                &rt,
+            is_reported_as(
+                &ServiceNameError::InvalidContent,
+                "ServiceNameError::InvalidContent",
+            ),
+            is_reported_as(
                 &AttributeDefinitionError::ExceedsMaxSupportedAttributes,
-            )
-            .as_str(),
+                "AttributeDefinitionError::ExceedsMaxSupportedAttributes",
+            ),
         ],
-        [
-            "ServiceNameError::InvalidContent",
-            "AttributeDefinitionError::ExceedsMaxSupportedAttributes",
-        ]
+        [true; 2]
     );
 }

@@ -1,4 +1,3 @@
-use crate::printing::text_of;
 use iox2_texts::attribute::{
     Attribute, AttributeDefinitionError, AttributeKey, AttributeSet, AttributeSpecifier,
     AttributeValue, AttributeVerifier, MAX_ATTRIBUTE_KEY_LENGTH, MAX_ATTRIBUTE_VALUE_LENGTH,
@@ -12,6 +11,7 @@ use iox2_texts::laws::{
 use std::cmp::Ordering;
 use std::hash::DefaultHasher;
 use std::process::Abort;
+use test_support::printing::is_printed_as;
 
 fn key(rt: &impl Abort, text: &str) -> AttributeKey {
     AttributeKey::try_from(text).expect(rt, "a key")
@@ -76,10 +76,8 @@ fn lengths_and_numbers_have_bounds(rt: HostRuntime) {
 #[test]
 fn key_is_its_text(rt: HostRuntime) {
     let b = key(&rt, "b");
-    assert_eq!(rt;
-        (b.as_bytes(), b.len(), text_of(&rt, &b).as_str()),
-        (b"b".as_slice(), 1, "b")
-    );
+    assert_eq!(rt; (b.as_bytes(), b.len()), (b"b".as_slice(), 1));
+    assert!(rt; is_printed_as(&b, "b"));
     assert!(rt; b.copied() == b);
 }
 
@@ -201,6 +199,7 @@ fn set_keeps_repeats(rt: HostRuntime) {
 }
 
 #[test]
+#[tactic(auto, using(iox2_texts::proofs::Callable::callbacks))]
 fn visit_ends_with_the_first_stop(rt: HostRuntime) {
     let set = set_of(&rt, &[("a", "3"), ("b", "0"), ("a", "1"), ("a", "2")]);
     let mut seen = AttributeSpecifier::new().attributes().copied();
@@ -221,6 +220,7 @@ fn visit_ends_with_the_first_stop(rt: HostRuntime) {
 }
 
 /// The values of a key that a callback is given that never stops.
+#[tactic(auto, using(iox2_texts::proofs::Callable::callbacks))]
 fn visited(rt: &impl Abort, set: &AttributeSet, of: &str) -> AttributeSet {
     let mut seen = AttributeSet::new();
     let visited = key(rt, "visited");
@@ -269,16 +269,11 @@ fn verifier_takes_what_it_requires(rt: HostRuntime) {
     );
 }
 
-fn refuses(
-    rt: &(impl Abort + AllocGlobal),
-    verifier: &AttributeVerifier,
-    set: &AttributeSet,
-    text: &str,
-) {
+fn refuses(rt: &impl Abort, verifier: &AttributeVerifier, set: &AttributeSet, text: &str) {
     let error = verifier
         .verify_requirements(set)
         .expect_err(rt, "a refusal");
-    assert_eq!(rt; text_of(rt, &error).as_str(), text);
+    assert!(rt; is_printed_as(&error, text));
     assert!(rt; error.copied() == error);
 }
 
@@ -339,12 +334,7 @@ fn verifier_takes_sixteen_requirements(rt: HostRuntime) {
 
 #[test]
 fn too_many_pairs_print_their_path(rt: HostRuntime) {
-    assert_eq!(rt;
-        text_of(
-            &rt,
-            &AttributeDefinitionError::ExceedsMaxSupportedAttributes
-        )
-        .as_str(),
-        "AttributeDefinitionError::ExceedsMaxSupportedAttributes"
-    );
+    let error = AttributeDefinitionError::ExceedsMaxSupportedAttributes;
+    let text = "AttributeDefinitionError::ExceedsMaxSupportedAttributes";
+    assert!(rt; is_printed_as(&error, text));
 }

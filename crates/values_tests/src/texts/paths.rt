@@ -1,4 +1,3 @@
-use crate::printing::text_of;
 use iox2_texts::bounded::{Content, SemanticString, SemanticStringError};
 use iox2_texts::laws::{
     file_names_have_up_to_255_bytes, file_paths_have_up_to_255_bytes, paths_have_up_to_255_bytes,
@@ -8,6 +7,7 @@ use iox2_texts::paths::{FileName, FilePath, Path, RestrictedFileName};
 use std::cmp::Ordering;
 use std::hash::DefaultHasher;
 use std::process::Abort;
+use test_support::printing::is_printed_as;
 
 const ILLEGAL: Option<SemanticStringError> = Some(SemanticStringError::InvalidContent);
 
@@ -80,7 +80,7 @@ fn longest_names_and_paths_have_255_bytes(rt: HostRuntime) {
 #[test]
 fn longest_path_prints_whole(rt: HostRuntime) {
     let longest = path(&rt, &[b'a'; 255]);
-    assert_eq!(rt; text_of(&rt, &longest).as_str(), longest.as_str());
+    assert!(rt; is_printed_as(&longest, longest.as_str()));
 }
 
 #[test]
@@ -133,14 +133,10 @@ fn tells<C: Content, const N: usize>(
     text: &str,
 ) {
     assert_eq!(rt;
-        (
-            found.as_str(),
-            found.as_bytes(),
-            found.len(),
-            text_of(rt, found).as_str()
-        ),
-        (text, text.as_bytes(), text.len(), text)
+        (found.as_str(), found.as_bytes(), found.len()),
+        (text, text.as_bytes(), text.len())
     );
+    assert!(rt; is_printed_as(found, text));
     let mut hasher = DefaultHasher::new();
     let agreement = semantic_strings_go_by_bytes(found, &found.copied(), &mut hasher);
     assert!(rt; agreement == (true, Ordering::Equal));

@@ -2,6 +2,9 @@
 
 mod attributes;
 mod bounded;
+mod debugs;
 mod errors;
+mod failing;
+mod lengths;
 mod paths;
 mod service_names;
