@@ -9,9 +9,9 @@ use service_descriptions::replay::{Command, ServiceState, replay, write_reply};
 use std::alloc::{AllocError, Global};
 
 /// A service with this capacity for nodes, for listeners and for notifiers.
-fn state(alloc: Global, capacities: usize) -> Result<ServiceState, AllocError> {
+fn state(alloc: Global, capacities: usize) -> Result<Box<ServiceState>, AllocError> {
     let settings = MessagingPatternSettings::new(PatternKind::Event, capacities, capacities);
-    ServiceState::new(alloc, &settings, capacities, 7)
+    Ok(Box::new(alloc, ServiceState::new(alloc, &settings, capacities, 7)?)?)
 }
 
 /// So many commands in one call.
@@ -20,8 +20,8 @@ fn at_once(alloc: Global, commands: usize) -> Result<(), AllocError> {
     for _ in 0..commands {
         all.push(Command::Count(Role::Listener))?;
     }
-    let mut replies = Vec::new(alloc);
-    replay(alloc, &mut state(alloc, 1)?, &all, &mut replies)
+    let mut state = state(alloc, 1)?;
+    in_turn(alloc, &mut state, &all, 1)
 }
 
 /// So many calls of the same commands.
@@ -41,12 +41,8 @@ fn in_turn(
 
 /// So many calls of one command.
 fn over_many(alloc: Global, calls: usize) -> Result<(), AllocError> {
-    in_turn(
-        alloc,
-        &mut state(alloc, 1)?,
-        &[Command::Count(Role::Listener)],
-        calls,
-    )
+    let mut state = state(alloc, 1)?;
+    in_turn(alloc, &mut state, &[Command::Count(Role::Listener)], calls)
 }
 
 /// A node and a port of each kind come.

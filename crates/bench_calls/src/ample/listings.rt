@@ -56,7 +56,7 @@ fn listed(
     members: usize,
 ) -> Result<[bool; 5], AllocError> {
     let settings = MessagingPatternSettings::new(pattern, members, members);
-    let mut service = DynamicConfig::new(alloc, &settings, members, 7)?;
+    let mut service = Box::new(alloc, DynamicConfig::new(alloc, &settings, members, 7)?)?;
     fill(&mut service, node, members);
     Ok(list(alloc, &service, &node))
 }
