@@ -1,5 +1,6 @@
 //! Words of replies, and what they say.
 use service_conformance::conformance::{ReplyWord, SeenReply, read_reply};
+use std::alloc::{AllocError, Global};
 use std::process::Abort;
 use std::test::Fail;
 
@@ -65,26 +66,40 @@ fn words_are_read(rt: HostRuntime) -> Result<(), Fail> {
     Ok(())
 }
 
+/// Whether words are those of a handle with this slot and ticket.
+fn is_handle(alloc: Global, words: &[u8], parts: (usize, u64)) -> Result<bool, AllocError> {
+    Ok(match read_reply(alloc, words)? {
+        Some(SeenReply::Handle(slot, ticket)) => (slot, ticket) == parts,
+        _ => false,
+    })
+}
+
+/// Whether words are those of this count.
+fn is_count(alloc: Global, words: &[u8], count: usize) -> Result<bool, AllocError> {
+    Ok(match read_reply(alloc, words)? {
+        Some(SeenReply::Count(found)) => found == count,
+        _ => false,
+    })
+}
+
+/// Whether words are those of a list of these ids.
+fn is_list(alloc: Global, words: &[u8], ids: &[u128]) -> Result<bool, AllocError> {
+    Ok(match read_reply(alloc, words)? {
+        Some(SeenReply::List(found)) => found.as_slice() == ids,
+        _ => false,
+    })
+}
+
 #[test]
 fn numbers_are_read(rt: HostRuntime) -> Result<(), Fail> {
     let alloc = rt.alloc();
-    match read_reply(alloc, b"handle 18446744073709551615 7")? {
-        Some(SeenReply::Handle(slot, ticket)) => assert_eq!(rt; (slot, ticket), (usize::MAX, 7)),
-        _ => assert!(rt; false),
-    }
-    match read_reply(alloc, b"count 0")? {
-        Some(SeenReply::Count(n)) => assert_eq!(rt; n, 0),
-        _ => assert!(rt; false),
-    }
-    match read_reply(alloc, b"list")? {
-        Some(SeenReply::List(ids)) => assert!(rt; ids.is_empty()),
-        _ => assert!(rt; false),
-    }
-    match read_reply(alloc, b"list 0 ff ffffffffffffffffffffffffffffffff")? {
-        Some(SeenReply::List(ids)) => {
-            assert_eq!(rt; ids.as_slice(), [0, 255, u128::MAX].as_slice());
-        }
-        _ => assert!(rt; false),
-    }
+    let greatest = b"list 0 ff ffffffffffffffffffffffffffffffff";
+    let found = [
+        is_handle(alloc, b"handle 18446744073709551615 7", (usize::MAX, 7))?,
+        is_count(alloc, b"count 0", 0)?,
+        is_list(alloc, b"list", &[])?,
+        is_list(alloc, greatest, &[0, 255, u128::MAX])?,
+    ];
+    assert_eq!(rt; found, [true; 4]);
     Ok(())
 }

@@ -4,7 +4,7 @@ use history_drawing::draw_log;
 use std::process::Abort;
 use std::test::Fail;
 
-/// Of a log this is drawn: the status, what is reported, and parts of the picture.
+/// Of a log this is drawn: the status, what is reported, and parts of the picture, if there is one.
 struct Row {
     log: &'static str,
     status: u8,
@@ -94,18 +94,31 @@ const BAD: Row = Row {
 };
 
 /// Of a log this is drawn.
-fn draws(rt: &(impl Abort + AllocGlobal), row: &Row) -> Result<(), Fail> {
-    let drawing = draw_log(rt.alloc(), row.log.as_bytes())?;
-    let message = drawing.message.as_slice();
+fn is_drawn(
+    rt: &(impl Abort + AllocGlobal),
+    log: &str,
+    (status, message): (u8, &str),
+    parts: &[&str],
+) -> Result<(), Fail> {
+    let drawing = draw_log(rt.alloc(), log.as_bytes())?;
     assert_eq!(rt;
-        (drawing.status.number(), message),
-        (row.status, row.message.as_bytes())
+        (
+            drawing.status.number(),
+            drawing.message.as_slice(),
+            drawing.picture.is_empty()
+        ),
+        (status, message.as_bytes(), parts.is_empty())
     );
-    for part in row.parts {
+    for part in parts {
         let found = drawing.picture.as_str().contains(part);
         assert_eq!(rt; (*part, found), (*part, true));
     }
     Ok(())
+}
+
+/// Of its log that of the row is drawn.
+fn draws(rt: &(impl Abort + AllocGlobal), row: &Row) -> Result<(), Fail> {
+    is_drawn(rt, row.log, (row.status, row.message), row.parts)
 }
 
 #[test]
@@ -140,27 +153,10 @@ fn log_of(rt: &impl AllocGlobal, calls: usize) -> Result<String, Fail> {
 #[test]
 fn as_many_calls_as_fit(rt: HostRuntime) -> Result<(), Fail> {
     let log = log_of(&rt, 200)?;
-    let drawing = draw_log(rt.alloc(), log.as_bytes())?;
-    assert_eq!(rt; (drawing.status.number(), drawing.message.len()), (0, 0));
-    assert!(rt;
-        drawing
-            .picture
-            .as_str()
-            .contains("x=\"23612\" y=\"62\" dx=\"5\">401</text>")
-    );
+    let last = ["x=\"23612\" y=\"62\" dx=\"5\">401</text>"];
+    is_drawn(&rt, log.as_str(), (0, ""), &last)?;
     let log = log_of(&rt, 201)?;
-    let drawing = draw_log(rt.alloc(), log.as_bytes())?;
-    assert_eq!(rt;
-        (
-            drawing.status.number(),
-            drawing.picture.len(),
-            drawing.message.as_slice()
-        ),
-        (
-            2,
-            0,
-            b"no picture: there are more than 200 calls\n".as_slice()
-        )
-    );
+    let report = "no picture: there are more than 200 calls\n";
+    is_drawn(&rt, log.as_str(), (2, report), &[])?;
     Ok(())
 }

@@ -1,6 +1,6 @@
 //! Histories of calls that overlapped, with what becomes of them.
 
-use histories::{Advance, Event, MAX_OPEN, advance, start};
+use histories::{Advance, Event, Front, MAX_OPEN, advance, start};
 use iox2_container::container::{ContainerHandle, Role};
 use iox2_dynamic::dynamic_config::MessagingPatternSettings;
 use iox2_dynamic::dynamic_config::event::DynamicConfigSettings;
@@ -275,6 +275,26 @@ pub(crate) fn calls_of(alloc: Global, calls: &[Call]) -> Result<Vec<JudgedCall>,
     Ok(list)
 }
 
+/// What becomes of a history, from this front on.
+fn found_on(
+    alloc: Global,
+    machine: &Calls<'_>,
+    front: &mut Front<WatchedService>,
+    events: &[Event],
+) -> Result<Found, AllocError> {
+    for at in 0..events.len() {
+        if front.slots.len() > MAX_OPEN {
+            return Ok(Found::Other);
+        }
+        match advance(alloc, machine, front, events[at])? {
+            Advance::Done => (),
+            Advance::Refused => return Ok(Found::Refused(at)),
+            _ => return Ok(Found::Other),
+        }
+    }
+    Ok(Found::Left(front.configs.len()))
+}
+
 /// What becomes of a history.
 fn judged(alloc: Global, calls: &[JudgedCall], events: &[Event]) -> Result<Found, AllocError> {
     let settings = MessagingPatternSettings::Event(DynamicConfigSettings {
@@ -289,17 +309,9 @@ fn judged(alloc: Global, calls: &[JudgedCall], events: &[Event]) -> Result<Found
     let service = ServiceCheck::new(alloc, &settings, 3, 7);
     let states = [WatchedService::new(alloc, &service)?];
     let mut front = start(alloc, &machine, &states)?;
-    for at in 0..events.len() {
-        if front.slots.len() > MAX_OPEN {
-            return Ok(Found::Other);
-        }
-        match advance(alloc, &machine, &mut front, events[at])? {
-            Advance::Done => (),
-            Advance::Refused => return Ok(Found::Refused(at)),
-            _ => return Ok(Found::Other),
-        }
-    }
-    Ok(Found::Left(front.configs.len()))
+    let found = found_on(alloc, &machine, &mut front, events);
+    drop(front);
+    found
 }
 
 /// What becomes of the history of a row.
