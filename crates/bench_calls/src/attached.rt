@@ -46,19 +46,18 @@ impl Attached {
         })
     }
 
-    /// A service with all its nodes.
-    pub(super) fn with_nodes(alloc: Global, capacities: Capacities) -> Result<Self, AllocError> {
-        let mut attached = Self::new(alloc, capacities)?;
-        attached.register(capacities.nodes)?;
-        Ok(attached)
+    /// Registers all nodes.
+    pub(super) fn register_all(&mut self) -> Result<(), AllocError> {
+        self.register(self.capacities.nodes)?;
+        Ok(())
     }
 
-    /// A service with all its nodes and ports.
-    pub(super) fn full(alloc: Global, capacities: Capacities) -> Result<Self, AllocError> {
-        let mut attached = Self::with_nodes(alloc, capacities)?;
-        attached.attach_subscribers(capacities.subscribers)?;
-        attached.attach_publishers(capacities.publishers);
-        Ok(attached)
+    /// Registers all nodes, and attaches all ports.
+    pub(super) fn fill(&mut self) -> Result<(), AllocError> {
+        self.register_all()?;
+        self.attach_subscribers(self.capacities.subscribers)?;
+        self.attach_publishers(self.capacities.publishers);
+        Ok(())
     }
 
     /// Registers this many nodes, and says how many there are.
@@ -115,6 +114,7 @@ impl Attached {
     }
 
     /// Shows all subscribers to a callback this often, and adds up the last parts of their ids.
+    #[tactic(auto, using(iox2_dynamic::proofs::Callbacks::callbacks))]
     pub(super) fn list(&self, count: u32) -> u64 {
         let mut digest = 0u64;
         let mut add = |details: &PortDetails| -> CallbackProgression {
@@ -175,6 +175,7 @@ impl Attached {
     }
 
     /// So many nodes die, the last one first, and says how many ports they had.
+    #[tactic(auto, using(iox2_dynamic::proofs::Callbacks::callbacks))]
     pub(super) fn die(&mut self, count: u32) -> u64 {
         let mut ports = 0u64;
         for number in 0..count {

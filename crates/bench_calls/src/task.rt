@@ -76,7 +76,7 @@ impl Task {
             Call::Layout => Ok(described::layouts(self.sizes(), self.calls)),
             Call::Verification => Ok(described::verifications(self.calls)),
             Call::HashText => Ok(described::hash_texts(self.calls)),
-            _ => self.calls_on(alloc, &mut self.attached(alloc)?),
+            _ => self.round_on(alloc, Attached::new(alloc, self.capacities)?),
         }
     }
 
@@ -89,12 +89,22 @@ impl Task {
         }
     }
 
-    /// The service that the calls are made on.
-    fn attached(&self, alloc: Global) -> Result<Attached, AllocError> {
+    /// What a round answers on a service without nodes and ports.
+    fn round_on(&self, alloc: Global, mut attached: Attached) -> Result<u64, AllocError> {
+        let answered = match self.prepare(&mut attached) {
+            Ok(()) => self.calls_on(alloc, &mut attached),
+            Err(refused) => Err(refused),
+        };
+        drop(attached);
+        answered
+    }
+
+    /// Lets those nodes and ports come that are there before the calls.
+    fn prepare(&self, attached: &mut Attached) -> Result<(), AllocError> {
         match self.call {
-            Call::Register => Attached::new(alloc, self.capacities),
-            Call::Attach => Attached::with_nodes(alloc, self.capacities),
-            _ => Attached::full(alloc, self.capacities),
+            Call::Register => Ok(()),
+            Call::Attach => attached.register_all(),
+            _ => attached.fill(),
         }
     }
 

@@ -1,16 +1,28 @@
 //! Fronts that go on event by event.
-use super::register::{Access, Recorded};
-use histories::{Advance, Event, MAX_OPEN, advance, begin_anew, order_up_to, start};
+use super::register::Access;
+use super::worked::{first, recorded};
+use histories::{Advance, Event, Front, MAX_OPEN, advance, begin_anew, order_up_to};
+use std::alloc::{AllocError, Global};
 use std::test::Fail;
+
+/// The orders of all configurations, one behind the other.
+fn all_orders(alloc: Global, front: &Front<u64>) -> Result<Vec<usize>, AllocError> {
+    let mut calls_in_order = Vec::new(alloc);
+    for config in &front.configs {
+        let order = order_up_to(alloc, &front.links, config.base)?;
+        for call in &order {
+            calls_in_order.push(*call)?;
+        }
+    }
+    Ok(calls_in_order)
+}
 
 #[test]
 fn orders_are_read(rt: HostRuntime) -> Result<(), Fail> {
     let alloc = rt.alloc();
     let calls = [Access::Write(1), Access::Write(2), Access::Read(1)];
-    let machine = Recorded {
-        calls: Vec::from_slice(alloc, &calls)?,
-    };
-    let mut front = start(alloc, &machine, &[0])?;
+    let machine = recorded(alloc, &calls)?;
+    let mut front = first(alloc, &machine)?;
     let mut done = true;
     for event in [
         Event::Begin(0),
@@ -26,13 +38,7 @@ fn orders_are_read(rt: HostRuntime) -> Result<(), Fail> {
     }
     assert!(rt; done);
     // The read saw the first write: the second one stands before that, or after the read.
-    let mut calls_in_order = Vec::new(alloc);
-    for config in &front.configs {
-        let order = order_up_to(alloc, &front.links, config.base)?;
-        for call in &order {
-            calls_in_order.push(*call)?;
-        }
-    }
+    let calls_in_order = all_orders(alloc, &front)?;
     assert_eq!(rt; calls_in_order.as_slice(), [1, 0, 2, 0, 2, 1].as_slice());
     // No call is open: the links go, and the states stay.
     assert!(rt; begin_anew(&machine, &mut front));
@@ -44,10 +50,8 @@ fn orders_are_read(rt: HostRuntime) -> Result<(), Fail> {
 fn an_open_call_keeps_its_links(rt: HostRuntime) -> Result<(), Fail> {
     let alloc = rt.alloc();
     let calls = [Access::Read(0), Access::Write(1)];
-    let machine = Recorded {
-        calls: Vec::from_slice(alloc, &calls)?,
-    };
-    let mut front = start(alloc, &machine, &[0])?;
+    let machine = recorded(alloc, &calls)?;
+    let mut front = first(alloc, &machine)?;
     for event in [Event::Begin(0), Event::Begin(1), Event::End(0)] {
         assert!(rt; front.slots.len() <= MAX_OPEN);
         assert_eq!(rt; advance(alloc, &machine, &mut front, event)?, Advance::Done);
@@ -73,10 +77,8 @@ fn calls_that_commute_are_followed_in_one_order(rt: HostRuntime) -> Result<(), F
         Access::Write(7),
         Access::Write(8),
     ];
-    let machine = Recorded {
-        calls: Vec::from_slice(alloc, &calls)?,
-    };
-    let mut front = start(alloc, &machine, &[0])?;
+    let machine = recorded(alloc, &calls)?;
+    let mut front = first(alloc, &machine)?;
     for event in [
         Event::Begin(0),
         Event::Begin(1),

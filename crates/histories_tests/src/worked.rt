@@ -1,7 +1,8 @@
 //! Histories of a register, with what is found of each.
 use super::register::{Access, Recorded};
-use histories::{Advance, Event, MAX_OPEN, advance, start};
+use histories::{Advance, Event, Front, MAX_OPEN, advance, start};
 use std::alloc::{AllocError, Global};
+use std::process::Abort;
 use std::test::Fail;
 
 /// What is found: how many configurations are left, or at which event the search ends, and why.
@@ -11,12 +12,21 @@ pub enum Found {
     Stopped(usize, Advance),
 }
 
+/// A register with 0, on which these calls are made.
+pub fn recorded(alloc: Global, calls: &[Access]) -> Result<Recorded, AllocError> {
+    let calls = Vec::from_slice(alloc, calls)?;
+    Ok(Recorded { calls })
+}
+
+/// The front before any call.
+pub fn first(alloc: Global, machine: &Recorded) -> Result<Box<Front<u64>>, AllocError> {
+    Ok(Box::new(alloc, start(alloc, machine, &[0])?)?)
+}
+
 /// What is found of these calls, from a register with 0 on.
 pub fn judged(alloc: Global, calls: &[Access], events: &[Event]) -> Result<Found, AllocError> {
-    let machine = Recorded {
-        calls: Vec::from_slice(alloc, calls)?,
-    };
-    let mut front = start(alloc, &machine, &[0])?;
+    let machine = recorded(alloc, calls)?;
+    let mut front = first(alloc, &machine)?;
     for at in 0..events.len() {
         if front.slots.len() > MAX_OPEN {
             return Ok(Found::Stopped(at, Advance::ManyOpen));
@@ -29,118 +39,148 @@ pub fn judged(alloc: Global, calls: &[Access], events: &[Event]) -> Result<Found
     Ok(Found::Left(front.configs.len()))
 }
 
-#[test]
-fn real_time_decides(rt: HostRuntime) -> Result<(), Fail> {
-    let alloc = rt.alloc();
-    // A writes 1. Within it B reads, and C reads afterwards.
-    let begins = [
-        Event::Begin(0),
-        Event::Begin(1),
-        Event::End(1),
-        Event::Begin(2),
-        Event::End(2),
-    ];
-    let reads = |first, second| [Access::Write(1), Access::Read(first), Access::Read(second)];
-    assert_eq!(rt; judged(alloc, &reads(0, 1), &begins)?, Found::Left(1));
-    // The second read begins when the first one, of the new value, is over.
-    assert_eq!(rt;
-        judged(alloc, &reads(1, 0), &begins)?,
-        Found::Stopped(4, Advance::Refused)
-    );
-    // The same replies, where the reads overlap.
-    let overlap = [
-        Event::Begin(0),
-        Event::Begin(1),
-        Event::Begin(2),
-        Event::End(1),
-        Event::End(2),
-    ];
-    assert_eq!(rt; judged(alloc, &reads(1, 0), &overlap)?, Found::Left(1));
+/// Calls, their events, and what is found.
+type Row = (&'static [Access], &'static [Event], Found);
+
+/// This is found of each row.
+fn are_found(rt: &(impl Abort + AllocGlobal), rows: &[Row]) -> Result<(), Fail> {
+    for (calls, events, found) in rows {
+        assert_eq!(rt; judged(rt.alloc(), calls, events)?, *found);
+    }
     Ok(())
 }
+
+/// While the first call goes on, the second one begins and ends, and then the third one.
+const IN_TURN: &[Event] = &[
+    Event::Begin(0),
+    Event::Begin(1),
+    Event::End(1),
+    Event::Begin(2),
+    Event::End(2),
+];
+
+const NEW_AFTER_OLD: &[Access] = &[Access::Write(1), Access::Read(0), Access::Read(1)];
+
+const OLD_AFTER_NEW: &[Access] = &[Access::Write(1), Access::Read(1), Access::Read(0)];
+
+/// A writes 1. Within it B reads, and C reads afterwards.
+static REAL_TIME: [Row; 3] = [
+    (NEW_AFTER_OLD, IN_TURN, Found::Left(1)),
+    // The second read begins when the first one, of the new value, is over.
+    (OLD_AFTER_NEW, IN_TURN, Found::Stopped(4, Advance::Refused)),
+    // The same replies, where the reads overlap.
+    (
+        OLD_AFTER_NEW,
+        &[
+            Event::Begin(0),
+            Event::Begin(1),
+            Event::Begin(2),
+            Event::End(1),
+            Event::End(2),
+        ],
+        Found::Left(1),
+    ),
+];
+
+#[test]
+fn real_time_decides(rt: HostRuntime) -> Result<(), Fail> {
+    are_found(&rt, &REAL_TIME)
+}
+
+/// The first call never ends.
+const OPEN: &[Event] = &[Event::Begin(0), Event::Begin(1), Event::End(1)];
+
+static NEVER_ENDING: [Row; 5] = [
+    // A write that never ends may have been made or not.
+    (&[Access::Write(1), Access::Read(1)], OPEN, Found::Left(1)),
+    (&[Access::Write(1), Access::Read(0)], OPEN, Found::Left(1)),
+    (
+        &[Access::Write(1), Access::Read(2)],
+        OPEN,
+        Found::Stopped(2, Advance::Refused),
+    ),
+    // A read that never ends has any reply, and is made at once.
+    (&[Access::Unanswered, Access::Read(0)], OPEN, Found::Left(1)),
+    // A chain of overlaps that never closes. The read saw the first write: the second one stands
+    // before that, or after the read.
+    (
+        &[
+            Access::Write(1),
+            Access::Write(2),
+            Access::Read(1),
+            Access::Write(3),
+        ],
+        &[
+            Event::Begin(0),
+            Event::Begin(1),
+            Event::End(0),
+            Event::Begin(2),
+            Event::End(1),
+            Event::Begin(3),
+            Event::End(2),
+        ],
+        Found::Left(2),
+    ),
+];
 
 #[test]
 fn calls_that_never_end(rt: HostRuntime) -> Result<(), Fail> {
-    let alloc = rt.alloc();
-    let events = [Event::Begin(0), Event::Begin(1), Event::End(1)];
-    // A write that never ends may have been made or not.
-    let seen = |value| [Access::Write(1), Access::Read(value)];
-    assert_eq!(rt; judged(alloc, &seen(1), &events)?, Found::Left(1));
-    assert_eq!(rt; judged(alloc, &seen(0), &events)?, Found::Left(1));
-    assert_eq!(rt;
-        judged(alloc, &seen(2), &events)?,
-        Found::Stopped(2, Advance::Refused)
-    );
-    // A read that never ends has any reply, and is made at once.
-    let calls = [Access::Unanswered, Access::Read(0)];
-    assert_eq!(rt; judged(alloc, &calls, &events)?, Found::Left(1));
-    // A chain of overlaps that never closes.
-    let chain = [
-        Event::Begin(0),
-        Event::Begin(1),
-        Event::End(0),
-        Event::Begin(2),
-        Event::End(1),
-        Event::Begin(3),
-        Event::End(2),
-    ];
-    let calls = [
-        Access::Write(1),
-        Access::Write(2),
-        Access::Read(1),
-        Access::Write(3),
-    ];
-    // The read saw the first write: the second one stands before that, or after the read.
-    assert_eq!(rt; judged(alloc, &calls, &chain)?, Found::Left(2));
-    Ok(())
+    are_found(&rt, &NEVER_ENDING)
 }
+
+/// A crashes. Then B reads, and C after it.
+const CRASHED: &[Event] = &[
+    Event::Begin(0),
+    Event::Crash(0),
+    Event::Begin(1),
+    Event::End(1),
+    Event::Begin(2),
+    Event::End(2),
+];
+
+static CRASHES: [Row; 4] = [
+    // The write took effect before the crash, or never.
+    (
+        &[Access::Write(1), Access::Read(1), Access::Read(1)],
+        CRASHED,
+        Found::Left(1),
+    ),
+    (
+        &[Access::Write(1), Access::Read(0), Access::Read(0)],
+        CRASHED,
+        Found::Left(1),
+    ),
+    (NEW_AFTER_OLD, CRASHED, Found::Stopped(5, Advance::Refused)),
+    // Without the crash, it may take effect between the reads.
+    (NEW_AFTER_OLD, IN_TURN, Found::Left(1)),
+];
 
 #[test]
 fn callers_that_crash(rt: HostRuntime) -> Result<(), Fail> {
-    let alloc = rt.alloc();
-    // A writes 1 and crashes. Then B reads, and C after it.
-    let events = [
-        Event::Begin(0),
-        Event::Crash(0),
-        Event::Begin(1),
-        Event::End(1),
-        Event::Begin(2),
-        Event::End(2),
-    ];
-    let seen = |first, second| [Access::Write(1), Access::Read(first), Access::Read(second)];
-    // The write took effect before the crash, or never.
-    assert_eq!(rt; judged(alloc, &seen(1, 1), &events)?, Found::Left(1));
-    assert_eq!(rt; judged(alloc, &seen(0, 0), &events)?, Found::Left(1));
-    assert_eq!(rt;
-        judged(alloc, &seen(0, 1), &events)?,
-        Found::Stopped(5, Advance::Refused)
-    );
-    // Without the crash, it may take effect between the reads.
-    let open = [
-        Event::Begin(0),
-        Event::Begin(1),
-        Event::End(1),
-        Event::Begin(2),
-        Event::End(2),
-    ];
-    assert_eq!(rt; judged(alloc, &seen(0, 1), &open)?, Found::Left(1));
-    Ok(())
+    are_found(&rt, &CRASHES)
 }
+
+const ONE_WRITE: &[Access] = &[Access::Write(1)];
+
+static NOT_OPEN: [Row; 3] = [
+    (
+        ONE_WRITE,
+        &[Event::End(0), Event::Begin(0), Event::End(0)],
+        Found::Stopped(0, Advance::NoEvent),
+    ),
+    (
+        ONE_WRITE,
+        &[Event::Begin(0), Event::End(0), Event::End(0)],
+        Found::Stopped(2, Advance::NoEvent),
+    ),
+    (
+        ONE_WRITE,
+        &[Event::Begin(0), Event::End(0), Event::Crash(0)],
+        Found::Stopped(2, Advance::NoEvent),
+    ),
+];
 
 #[test]
 fn a_call_that_is_not_open_does_not_end(rt: HostRuntime) -> Result<(), Fail> {
-    let alloc = rt.alloc();
-    let calls = [Access::Write(1)];
-    let rows = [
-        ([Event::End(0), Event::Begin(0), Event::End(0)], 0),
-        ([Event::Begin(0), Event::End(0), Event::End(0)], 2),
-        ([Event::Begin(0), Event::End(0), Event::Crash(0)], 2),
-    ];
-    for (events, at) in rows {
-        assert_eq!(rt;
-            judged(alloc, &calls, &events)?,
-            Found::Stopped(at, Advance::NoEvent)
-        );
-    }
-    Ok(())
+    are_found(&rt, &NOT_OPEN)
 }

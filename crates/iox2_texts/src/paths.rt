@@ -17,7 +17,7 @@ const MAX_PATH_LENGTH: usize = 255;
 
 /// A path of at most 255 bytes, which may be empty.
 ///
-/// From `crates/iox2_texts_tests/src/texts/paths.rt`:
+/// From `crates/values_tests/src/texts/paths.rt`:
 ///
 /// ```
 /// let mut whole = path(rt, front);
@@ -55,7 +55,7 @@ impl Path {
 
 /// The name of a file: 1 to 255 bytes without `/`, and neither `.` nor `..`.
 ///
-/// From `crates/iox2_texts_tests/src/texts/paths.rt`:
+/// From `crates/values_tests/src/texts/paths.rt`:
 ///
 /// ```
 /// FileName::new(bytes).expect(rt, "a name")
@@ -85,7 +85,7 @@ fn are_dots(bytes: &[u8]) -> bool
 /// The path of a file: 1 to 255 bytes, of which those after the last `/` are a file name. Where
 /// there is no `/`, all of them are. `a/` and `a/..` are refused.
 ///
-/// From `crates/iox2_texts_tests/src/texts/paths.rt`:
+/// From `crates/values_tests/src/texts/paths.rt`:
 ///
 /// ```
 /// let file = FilePath::from_path_and_file(&path(&rt, b""), &name(&rt, b"a"));
@@ -133,7 +133,7 @@ impl FilePath {
 /// The name of a file: 1 to `N` letters `A` to `Z` and `a` to `z`, digits, `-`, `.`, `:` and `_`,
 /// and neither `.` nor `..`.
 ///
-/// From `crates/iox2_texts_tests/src/texts/paths.rt`:
+/// From `crates/values_tests/src/texts/paths.rt`:
 ///
 /// ```
 /// let restricted = RestrictedFileName::<4>::new(b"c");

@@ -11,7 +11,7 @@ use std::marker::{Model, PhantomData};
 ///
 /// No part of an id is bounded further than its type; all parts may be 0.
 ///
-/// From `crates/iox2_ids_tests/src/ids.rt`:
+/// From `crates/values_tests/src/ids/worked.rt`:
 ///
 /// ```
 /// let id = UniquePublisherId::new(process, seconds, nanoseconds, counter);

@@ -190,7 +190,7 @@ impl AttributeSet {
 
 /// A set of attributes that is built pair by pair.
 ///
-/// From `crates/iox2_texts_tests/src/texts/attributes.rt`:
+/// From `crates/values_tests/src/texts/attributes.rt`:
 ///
 /// ```
 /// AttributeSpecifier::new()

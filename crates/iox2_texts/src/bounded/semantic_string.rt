@@ -18,7 +18,7 @@ pub trait Content {
 
 /// A text of at most `N` bytes, each from 1 to 127, that the content `C` allows.
 ///
-/// From `crates/iox2_texts_tests/src/texts/paths.rt`:
+/// From `crates/values_tests/src/texts/paths.rt`:
 ///
 /// ```
 /// let restricted = RestrictedFileName::<4>::new(b"c");
