@@ -20,3 +20,9 @@ pub mod Shortened
 pub mod Settled
 pub mod ShortLogs
 pub mod Conforming
+pub mod OneLine
+pub mod OneReply
+pub mod SameSeen
+pub mod SameSteps
+pub mod Readings
+pub mod Excluding
