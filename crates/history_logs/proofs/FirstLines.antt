@@ -157,10 +157,11 @@ module _ (bytes : List ℕ) (above line tried : ℕ) (reported : Refusal)
         record { apart = h; none = between.none; refuses = refuses }
 
 pub decided : (bytes : List ℕ) (above line : ℕ) (reported : Refusal) → line - above ≤ 1
-    → StandsBetween bytes above line reported
+    → StandsBetween bytes above line reported → (other : Refusal) → RefusesIn bytes other
     → IsFirstRefused bytes (record reported { line = line })
-decided bytes above line reported one between =
+decided bytes above line reported one between other whole =
     let refuses = between.refuses in record {
+      whole = (other, whole);
       above = above;
       line = omega (arith, between.apart);
       none = between.none;

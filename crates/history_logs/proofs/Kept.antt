@@ -10,7 +10,7 @@ use Rattle.history_logs.proofs.AtIndex.{all_get, get_push, get_same}
 use Rattle.history_logs.proofs.Named.{numbers_set, same_numbers}
 use Rattle.history_logs.proofs.Orderly.{begun_of, open_alone, open_crashed, open_ended, orderly_alone, orderly_crash, orderly_end, orderly_new, orderly_started}
 
-cases_name : (a b : List ℕ) → (a ≡ b) ⊎ (a ≢ b)
+pub cases_name : (a b : List ℕ) → (a ≡ b) ⊎ (a ≢ b)
 cases_name a b =
     elim (cases_Bool (bytes_eq a b)) [
       | inl e ↦ inl ((bytes_eq-Decides a b).0 e)

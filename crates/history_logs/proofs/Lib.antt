@@ -21,3 +21,9 @@ pub mod Settled
 pub mod ShortLogs
 pub mod Conforming
 pub mod FirstLines
+pub mod OneLine
+pub mod OneReply
+pub mod SameSeen
+pub mod SameSteps
+pub mod Readings
+pub mod Excluding

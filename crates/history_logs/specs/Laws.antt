@@ -1,9 +1,14 @@
 -- What holds of all logs.
-use Rattle.std.specs.Prelude.{◌≡◌, ◌≢◌, ◌⊎◌, ◌++◌, ◌∷◌, [], ℕ, false, Option}
+use Rattle.std.specs.Prelude.{◌≡◌, ◌≢◌, ◌⊎◌, ◌++◌, ◌∷◌, [], ℕ, false, List, Option}
 use Rattle.log_lines.specs.Lines.Line.{given}
 use Rattle.log_lines.specs.States.{State}
 use Rattle.log_lines.specs.States.State.{nodes, ports, entry}
+use Rattle.history_logs.specs.declared.logs.verdict.Expected.{Expected}
+use Rattle.history_logs.specs.declared.logs.verdict.Refusal.{Refusal}
+use Rattle.history_logs.specs.declared.logs.verdict.Verdict.TheVariants.{BadLine, Conforms, Refused}
+use Rattle.history_logs.specs.Logs.{HasGood, Judged}
 use Rattle.history_logs.specs.Reading.{GoesOn, IsNamed, Log}
+use Rattle.history_logs.specs.SameLogs.{IsSameLog}
 use Rattle.history_logs.specs.Seen.{Service, unseen}
 
 -- an empty registry is given, of which no ticket was used
@@ -23,3 +28,25 @@ abbrev pub EmptyStatesChangeNothing : Type 0
 EmptyStatesChangeNothing =
     (old new : Log) (k : ℕ) (number : Option ℕ) (what : State) → IsEmptyState what
     → GoesOn old k (given number what) new → (new ≡ old) ⊎ IsAnew old number new
+
+-- The good lines of a log are read in one way: as many are there in each reading, the same follows
+-- them, and the same was read of them, but for the memory of lists in commands and replies.
+abbrev pub LogsHaveOneReading : Type 0
+LogsHaveOneReading =
+    (bytes : List ℕ) (count other_count : ℕ) (log other : Log) (rest other_rest : List ℕ)
+    → HasGood bytes count log rest → HasGood bytes other_count other other_rest
+    → (count ≡ other_count) × (rest ≡ other_rest) × IsSameLog log other
+
+-- A log that conforms has no bad line, and where it conforms or has one, it is not refused. Its calls
+-- and services are counted in one way, and one line of it is bad.
+pub record VerdictsExclude (bytes : List ℕ) : Type 0 where
+  pub conforms_or_refused : (n m : ℕ) (r : Refusal) → Judged bytes (Conforms n m)
+      → ¬ (Judged bytes (Refused r))
+  pub conforms_or_bad : (n m k : ℕ) (e : Expected) → Judged bytes (Conforms n m)
+      → ¬ (Judged bytes (BadLine k e))
+  pub bad_or_refused : (k : ℕ) (e : Expected) (r : Refusal) → Judged bytes (BadLine k e)
+      → ¬ (Judged bytes (Refused r))
+  pub one_count : (n m i j : ℕ) → Judged bytes (Conforms n m) → Judged bytes (Conforms i j)
+      → (n ≡ i) × (m ≡ j)
+  pub one_line : (k j : ℕ) (e f : Expected) → Judged bytes (BadLine k e)
+      → Judged bytes (BadLine j f) → k ≡ j

@@ -3,6 +3,7 @@
 pub mod Seen
 pub mod Reading
 pub mod Logs
+pub mod SameLogs
 pub mod Laws
 pub mod Good
 pub mod EventLines

@@ -202,9 +202,11 @@ first_lines (suc count) [] = []
 first_lines (suc count) (b ∷ bytes) =
     b ∷ (if b == 10 then first_lines count bytes else first_lines (suc count) bytes)
 
--- The line is the first one down to which a reply is refused. What is reported is by the replies
--- that stand in the lines down to it: a call that is answered below it may have any reply.
+-- By all replies of the log one is refused. The line is the first one down to which one is. What is
+-- reported is by the replies that stand in the lines down to it: a call that is answered below it may
+-- have any reply.
 pub record IsFirstRefused (bytes : List ℕ) (reported : Refusal) : Type 0 where
+  pub whole : (other : Refusal) × RefusesIn bytes other
   pub above : ℕ
   pub line : reported.line ≡ above + 1
   pub none : RefusesNoneIn (first_lines above bytes)

@@ -1,6 +1,7 @@
 //! What holds of all logs, and of the comparison and the clone of `Expected`.
-ghost use Rattle.std.specs.Prelude.{◌≡◌, ◌↔◌, IsTrue, IsOkAnd};
-ghost use Rattle.history_logs.specs.Laws.{EmptyStatesChangeNothing};
+ghost use Rattle.std.specs.Prelude.{◌≡◌, ◌↔◌, ℕ, List, IsTrue, IsOkAnd};
+ghost use Rattle.history_logs.specs.Laws.{EmptyStatesChangeNothing, LogsHaveOneReading};
+ghost use Rattle.history_logs.specs.Laws.{VerdictsExclude};
 
 use crate::logs::Expected;
 use std::alloc::AllocError;
@@ -22,4 +23,16 @@ pub fn expected_goes_by_variant(
 /// judged as one without.
 pub fn empty_states_change_nothing()
     ensures { EmptyStatesChangeNothing }
+{}
+
+/// The good lines of a log are read in one way, but for the memory of lists.
+pub fn logs_have_one_reading()
+    ensures { LogsHaveOneReading }
+{}
+
+/// A log that conforms has no bad line, and where it conforms or has one, it is not refused. Its
+/// calls and services are counted in one way, and one line of it is bad.
+#[tactic(auto, using(crate::proofs::Excluding::verdicts_exclude))]
+pub fn verdicts_exclude_each_other()
+    ensures { (bytes : List ℕ) → VerdictsExclude bytes }
 {}

@@ -28,4 +28,6 @@ loop-line-preserved c = record {
 }
 
 pub returns : goal.returns
-returns c = decided _ _ _ _ (omega (arith, c.loop-line-test.false)) c.loop-line.invariant.between
+returns c =
+    decided _ _ _ _ (omega (arith, c.loop-line-test.false)) c.loop-line.invariant.between
+    c.args.reported c.requires

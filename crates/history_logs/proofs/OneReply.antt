@@ -1,0 +1,106 @@
+-- Replies with the same words are the same, but for the memory of a list.
+use Rattle.history_logs.proofs.Words.{[], List, None, Says, SeenReply, ap, arith, codes, decimal, get_or, refl, sym, ℕ, ◌++◌, ◌<◌, ◌∙◌, ◌≡◌, ◌≢◌}
+use Rattle.std.specs.Prelude.{◌^◌}
+use Rattle.std.specs.Global.{Vec}
+use Rattle.std.proofs.lemmas.Fmt.{decimal_injective}
+use Rattle.std.proofs.lemmas.List.{append_assoc, append_cancel_left}
+use Rattle.line_streams.specs.Numerals.{cons_same, same_number}
+use Rattle.line_streams.specs.OneWay.{listed_one}
+use Rattle.service_conformance.proofs.Seen.{is_named, listed_fit, listed_is, no_handle_text, same_count}
+use Rattle.service_conformance.specs.declared.conformance.seen_reply.ReplyWord.{ReplyWord}
+use Rattle.service_conformance.specs.declared.conformance.seen_reply.ReplyWord.TheVariants as word
+use Rattle.service_conformance.specs.declared.conformance.seen_reply.SeenReply.TheVariants as seen
+use Rattle.service_conformance.specs.IdWords.{printed_one}
+use Rattle.service_conformance.specs.Possible.{reply_named}
+use Rattle.service_conformance.specs.Seen.{IsSeen, seen_text, word_text}
+use Rattle.service_conformance.specs.Words.{handle_words}
+use Rattle.service_descriptions.specs.Steps.{handle_in}
+use Rattle.service_descriptions.specs.declared.replay.machine.reply.Reply.{Reply}
+use Rattle.service_descriptions.specs.declared.replay.machine.reply.Reply.TheVariants as reply
+use Rattle.history_logs.specs.SameLogs.{IsSameReply}
+use Rattle.history_logs.specs.SameLogs.IsSameReply.{other_ids, own_reply}
+
+-- the reply without numbers
+abbrev word_in : Reply → ReplyWord
+word_in reply.Locked = word.Locked
+word_in reply.Full = word.Full
+word_in reply.NotRegistered = word.NotRegistered
+word_in reply.HasOwners = word.HasOwners
+word_in reply.NoMoreOwners = word.NoMoreOwners
+word_in reply.PortsAttached = word.PortsAttached
+word_in reply.Released = word.Released
+word_in reply.NotOwned = word.NotOwned
+word_in reply.NoHandle = word.NoHandle
+word_in _ = word.WrongPattern
+
+its_word : (w : ReplyWord) → word_in (reply_named w) ≡ w
+its_word word.Locked = refl
+its_word _ = refl
+
+one_word : (v w : ReplyWord) → word_text v ≡ word_text w → v ≡ w
+one_word v w e = sym (its_word v) ∙ (ap word_in (is_named (reply_named v) w e) ∙ its_word w)
+
+no_handle : (w : ReplyWord) (slot ticket : ℕ) → word_text w ≢ handle_words slot ticket
+no_handle w = no_handle_text (reply_named w) (none w)
+  where
+    none : (v : ReplyWord) → handle_in (reply_named v) ≡ None
+    none word.Locked = refl
+    none _ = refl
+
+no_count : (w : ReplyWord) (n : ℕ) → reply.Count n ≢ reply_named w
+no_count word.Locked n e = absurd (cc)
+no_count _ n e = absurd (cc)
+
+no_list : (w : ReplyWord) (ids : Vec ℕ) → reply.Nodes ids ≢ reply_named w
+no_list word.Locked ids e = absurd (cc)
+no_list _ ids e = absurd (cc)
+
+one_handle : (a b c d : ℕ) → a < 2 ^ 64 → b < 2 ^ 64 → c < 2 ^ 64 → d < 2 ^ 64
+    → handle_words a b ≡ handle_words c d → (a ≡ c) × (b ≡ d)
+one_handle a b c d p q r s e =
+    let same : (decimal a ++ codes " ") ++ decimal b ≡ (decimal c ++ codes " ") ++ decimal d =
+    append_cancel_left (codes "handle ") _ _ e in
+    let first =
+    same_number a c (codes " " ++ decimal b) (codes " " ++ decimal d) p r (λ digit. omega arith)
+    (λ digit. omega arith)
+    (sym (append_assoc (decimal a) (codes " ") (decimal b))
+    ∙ (same ∙ append_assoc (decimal c) (codes " ") (decimal d))) in
+    (first.0, decimal_injective b d q s (cons_same first.1).1)
+
+same_seen : (r s : SeenReply) → IsSeen r → IsSeen s → seen_text r ≡ seen_text s → IsSameReply r s
+same_seen (seen.Handle a b) (seen.Handle c d) p q e =
+    let is = one_handle a b c d p.0 p.1 q.0 q.1 e in
+    rw (is.0, is.1) (own_reply (seen.Handle c d))
+same_seen (seen.Word v) (seen.Word w) p q e = rw (one_word v w e) (own_reply (seen.Word w))
+same_seen (seen.Count m) (seen.Count n) p q e =
+    rw ((same_count m n p q).1 e) (own_reply (seen.Count n))
+same_seen (seen.List ids) (seen.List others) p q e =
+    other_ids ids others ((listed_one (codes " ") 32 printed_one).same (ids.items, [])
+    (others.items, []) (listed_fit ids.items p) (listed_fit others.items q)
+    (listed_is ids.items ∙ (append_cancel_left (codes "list") _ _ e ∙ sym (listed_is
+    others.items)))).0
+same_seen (seen.Word w) (seen.Handle a b) p q e = absurd (no_handle w a b e)
+same_seen (seen.Handle a b) (seen.Word w) p q e = absurd (no_handle w a b (sym e))
+same_seen (seen.Count n) (seen.Handle a b) p q e =
+    absurd (no_handle_text (reply.Count n) refl a b e)
+same_seen (seen.Handle a b) (seen.Count n) p q e =
+    absurd (no_handle_text (reply.Count n) refl a b (sym e))
+same_seen (seen.List ids) (seen.Handle a b) p q e =
+    absurd (no_handle_text (reply.Nodes ids) refl a b e)
+same_seen (seen.Handle a b) (seen.List ids) p q e =
+    absurd (no_handle_text (reply.Nodes ids) refl a b (sym e))
+same_seen (seen.Count n) (seen.Word w) p q e = absurd (no_count w n (is_named (reply.Count n) w e))
+same_seen (seen.Word w) (seen.Count n) p q e =
+    absurd (no_count w n (is_named (reply.Count n) w (sym e)))
+same_seen (seen.List ids) (seen.Word w) p q e =
+    absurd (no_list w ids (is_named (reply.Nodes ids) w e))
+same_seen (seen.Word w) (seen.List ids) p q e =
+    absurd (no_list w ids (is_named (reply.Nodes ids) w (sym e)))
+same_seen (seen.Count n) (seen.List ids) p q e =
+    absurd (omega (arith, ap (λ (l : List ℕ). get_or l 0 0) e))
+same_seen (seen.List ids) (seen.Count n) p q e =
+    absurd (omega (arith, ap (λ (l : List ℕ). get_or l 0 0) e))
+
+pub same_says : (words : List ℕ) (r s : SeenReply) → Says words r → Says words s
+    → IsSameReply r s
+same_says words r s a b = same_seen r s a.is b.is (a.text ∙ sym b.text)
