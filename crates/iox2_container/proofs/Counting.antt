@@ -88,21 +88,6 @@ module _ {T : Type 0} (node : T → ℕ) (id : ℕ) (cells : List (Option (Occup
   others_more from i to others is e =
       others_join from i i to others (other_at i to is e) (omega arith)
 
-  -- looks at slots in turn find nothing
-  module _ (at : ℕ) (first : SlotIsOf node id cells at false)
-      (second : SlotIsOf node id cells (at + 1) false) where
-    pub others_two : AreOthers node id cells at (at + 2)
-    others_two = others_more at (at + 1) (at + 2) (other_at at (at + 1) first refl) second
-        (omega arith)
-
-    pub others_three : SlotIsOf node id cells (at + 2) false → AreOthers node id cells at (at + 3)
-    others_three third = others_more at (at + 2) (at + 3) others_two third (omega arith)
-
-    pub others_four : SlotIsOf node id cells (at + 2) false
-        → SlotIsOf node id cells (at + 3) false → AreOthers node id cells at (at + 4)
-    others_four third fourth =
-        others_more at (at + 3) (at + 4) (others_three third) fourth (omega arith)
-
   -- what was found from a slot on, after other slots: before the end, or nothing up to it
   pub found_after : (from at end to : ℕ) (o : Option (Found T)) → from ≤ at → end ≤ to
       → IsSome o ⊎ (end ≡ to) → AreOthers node id cells from at
