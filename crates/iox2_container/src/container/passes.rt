@@ -55,6 +55,26 @@ fn has_next<T: Attached + Copy, N: Copy>(
     false
 }
 
+/// The same as [`next_of`], for the few slots that are left.
+fn next_of_few<T: Attached + Copy, N: Copy>(
+    slots: &mut EntrySlots<T, N>,
+    start: usize,
+    end: usize,
+    node: &UniqueNodeId,
+) -> Option<Found<T>>
+    requires order { start ≤ end }
+    requires within { end ≤ length slots.old.cells }
+    ensures cells { slots.new.cells ≡ slots.old.cells }
+    ensures touches { slots.new.touches ≡ slots.old.touches + looked_at start end result }
+    ensures found { MatchOption result
+        (AreOthers T.node node.now (map shown slots.old.cells) start end)
+        (IsNextOf T.node node.now (map shown slots.old.cells) start end) }
+{
+    let mut found = None;
+    has_next(slots, start, end - start, node, &mut found);
+    found
+}
+
 /// The first entry of the node from one slot on and before the end. It reads each slot up to that
 /// of the entry once, or each slot before the end, and no other. Eight are read in one turn.
 fn next_of<T: Attached + Copy, N: Copy>(
@@ -79,8 +99,7 @@ fn next_of<T: Attached + Copy, N: Copy>(
         }
         slot += 8;
     }
-    has_next(slots, slot, end - slot, node, &mut found);
-    found
+    next_of_few(slots, slot, end, node)
 }
 
 /// Clears the slot of an entry that was found, if the callback says so.

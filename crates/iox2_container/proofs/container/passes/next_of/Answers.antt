@@ -23,7 +23,7 @@ loop-slot-preserved g c =
 pub returns-clause-found : goal.returns-clause-found
 returns-clause-found g c =
     found_after g.T.Attached.node c.args.node.now (map shown c.args.slots.now.cells)
-    c.args.start c.loop-slot.slot (c.loop-slot.slot + (c.args.end - c.loop-slot.slot)) c.args.end
-    c.has_next-2.new.found c.loop-slot.invariant.order (omega arith) (inr (omega arith))
-    c.loop-slot.invariant.others
-    (rw c.loop-slot.invariant.cells at c.has_next-2.ensures.found)
+    c.args.start c.loop-slot.slot c.args.end c.args.end c.next_of_few.result
+    c.loop-slot.invariant.order (omega (arith, c.loop-slot.invariant.within))
+    (inr (omega arith)) c.loop-slot.invariant.others
+    (rw c.loop-slot.invariant.cells at c.next_of_few.ensures.found)
