@@ -233,10 +233,7 @@ module _ {F A B N : Type 0} (calls : F → A → CallbackProgression → F → T
       → (list_of f).items ≡ [] → (list_of f).cap ≡ length items
       → (name h ≡ name f) × ((list_of h).items ≡ map u items)
       × ((list_of h).cap ≡ length (list_of h).items)
-  all_listed f items h visit none room =
-      let t = all_put f items h visit in
-      let all : (list_of h).items ≡ map u items = t.1.0 ∙ ap (λ l. l ++ map u items) none in
-      (t.0, all, omega (arith, t.1.2, room, ap length all, length-map items u))
+  all_listed f items h visit none room = grind (arith, all_put, length-map)
 
   -- it may be called while there is room
   module _ (takes : F → A → Type 0)

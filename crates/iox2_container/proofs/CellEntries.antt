@@ -1,5 +1,5 @@
 -- What cells show, and the entries that stand in them.
-use Rattle.iox2_container.proofs.Prelude.{All, All-cons, All-nil, All-weaker, AllPairs, AllPairs-cons, Cell, Entry, Free, InsertsOne, List, None, NoneFrom, Occupant, Option, Some, [], ap, arith, entries_from, get_or_from_slice_get, length, map, map-set, occupant, refl, replicate, set-get_or, set-set, shown, slice_get, slice_get-map, slice_get_within, slice_set, suc, sym, take, zero, ℕ, ◌+◌, ◌<◌, ◌∙◌, ◌∷◌, ◌≡◌, ◌≢◌, ◌≤◌}
+use Rattle.iox2_container.proofs.Prelude.{All, All-cons, All-nil, All-weaker, AllPairs, AllPairs-cons, Cell, Entry, Free, InsertsOne, List, None, NoneFrom, Occupant, Option, Some, [], ap, arith, drop, entries_from, get_or_from_slice_get, length, map, map-set, occupant, refl, replicate, set-get_or, set-set, shown, slice_get, slice_get-map, slice_get_within, slice_set, suc, sym, take, zero, ℕ, ◌+◌, ◌<◌, ◌∙◌, ◌∷◌, ◌≡◌, ◌≢◌, ◌≤◌}
 use Rattle.iox2_container.proofs.Lists.{gains_later, get_set_same}
 
 nothing_shown : {T N : Type 0} (next : N) (n : ℕ)
@@ -97,6 +97,17 @@ room_from low (Some o ∷ cells) = omega (arith, room_from (low + 1) cells)
 pub nothing_stands : {T : Type 0} (low n : ℕ) → entries_from {T = T} low (replicate n None) ≡ []
 nothing_stands low zero = refl
 nothing_stands low (suc n) = nothing_stands (low + 1) n
+
+-- where no entry stands from a slot on, the cells from it on have none
+pub nothing_from : {T : Type 0} (low i : ℕ) (cells : List (Option (Occupant T)))
+    → NoneFrom cells i → entries_from low (drop i cells) ≡ []
+nothing_from low zero [] free = refl
+nothing_from low (suc i) [] free = refl
+nothing_from low zero (None ∷ cells) free =
+    nothing_from (low + 1) zero cells (λ slot later taken. free (suc slot) (omega arith) taken)
+nothing_from low zero (Some o ∷ cells) free = absurd (free zero (omega arith) (o, refl))
+nothing_from low (suc i) (c ∷ cells) free =
+    nothing_from low i cells (λ slot later taken. free (suc slot) (omega arith) taken)
 
 -- where no entry stands from a slot on, all stand before it
 pub all_before : {T : Type 0} (low end : ℕ) (cells : List (Option (Occupant T)))

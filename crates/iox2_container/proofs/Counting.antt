@@ -1,5 +1,5 @@
 -- How many entries a test holds of.
-use Rattle.iox2_container.proofs.Prelude.{All, All-cons, All-nil, AreOthers, Bool, Entry, Found, InsertsOne, IsLastOf, IsNextOf, IsSome, IsTakenAt, List, MatchBool, MatchOption, None, NoneFrom, Occupant, Option, SlotIsOf, Some, [], add-one, ap, arith, candidates, cell_is_of, entries_from, false, if◌then◌else◌, inl, inr, is_of, leb_tells, length, lt-ltb, nat_lt, refl, same_Some, slice_get, staying, suc, sym, take, true, ℕ, ◌++◌, ◌+◌, ◌<◌, ◌∙◌, ◌∷◌, ◌≡◌, ◌≤◌, ◌⊎◌}
+use Rattle.iox2_container.proofs.Prelude.{All, All-cons, All-nil, AreOthers, Bool, Entry, Found, InsertsOne, IsLastOf, IsNextOf, IsSome, IsTakenAt, List, MatchBool, MatchOption, None, NoneFrom, Occupant, Option, SlotIsOf, Some, [], add-one, ap, arith, candidates, cell_is_of, entries_from, false, if◌then◌else◌, inl, inr, is_of, leb_tells, length, lt-ltb, nat_lt, refl, rules, same_Some, slice_get, staying, suc, sym, take, true, ℕ, ◌++◌, ◌+◌, ◌<◌, ◌∙◌, ◌∷◌, ◌≡◌, ◌≤◌, ◌⊎◌}
 use Rattle.iox2_container.proofs.Passes.{entries_split, taken_free, taken_more, over_others}
 use Rattle.iox2_container.proofs.CellEntries.{all_before}
 
@@ -88,21 +88,6 @@ module _ {T : Type 0} (node : T → ℕ) (id : ℕ) (cells : List (Option (Occup
   others_more from i to others is e =
       others_join from i i to others (other_at i to is e) (omega arith)
 
-  -- looks at slots in turn find nothing
-  module _ (at : ℕ) (first : SlotIsOf node id cells at false)
-      (second : SlotIsOf node id cells (at + 1) false) where
-    pub others_two : AreOthers node id cells at (at + 2)
-    others_two = others_more at (at + 1) (at + 2) (other_at at (at + 1) first refl) second
-        (omega arith)
-
-    pub others_three : SlotIsOf node id cells (at + 2) false → AreOthers node id cells at (at + 3)
-    others_three third = others_more at (at + 2) (at + 3) others_two third (omega arith)
-
-    pub others_four : SlotIsOf node id cells (at + 2) false
-        → SlotIsOf node id cells (at + 3) false → AreOthers node id cells at (at + 4)
-    others_four third fourth =
-        others_more at (at + 3) (at + 4) (others_three third) fourth (omega arith)
-
   -- what was found from a slot on, after other slots: before the end, or nothing up to it
   pub found_after : (from at end to : ℕ) (o : Option (Found T)) → from ≤ at → end ≤ to
       → IsSome o ⊎ (end ≡ to) → AreOthers node id cells from at
@@ -111,12 +96,7 @@ module _ {T : Type 0} (node : T → ℕ) (id : ℕ) (cells : List (Option (Occup
   found_after from at end to None l m (inl some) others after = grind arith
   found_after from at end to None l m (inr e) others after =
       others_join from at at to others (rw e at after) (omega arith)
-  found_after from at end to (Some found) l m s others next = record {
-    order = omega (arith, next.order);
-    before = omega (arith, next.before);
-    others = others_join from at at found.slot others next.others (omega arith);
-    here = next.here;
-  }
+  found_after from at end to (Some found) l m s others next = search (rules, others_join)
 
   -- a search says whether the node has an entry, where the slots before it have none
   pub finds_last : (at from end old new : ℕ) (has : Bool) → NoneFrom cells end

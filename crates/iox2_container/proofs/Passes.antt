@@ -1,5 +1,5 @@
 -- Passes over cells, which call callbacks in turn: what they leave, and what is still to come.
-use Rattle.iox2_container.proofs.Prelude.{All, All-filter, All-head, All-tail, All-weaker, AreOthers, Bool, CallbackProgression, CalledInTurn, CalledOnCell, Continue, Entry, Found, IsNextOf, List, MayCall, MayVisit, None, NoneFrom, Occupant, Option, SlotIsOf, Some, Stop, Swept, TakesCell, Visit, Visits, [], add-one, ap, append-nil, append_assoc, arith, candidates, cell_is_of, drop, entries_from, eq-eqb, false, filter-append, if◌then◌else◌, inl, inr, is_leaving, is_of, leb_tells, length, length-append, length-set, length-take, map, map-append, ne_eqb, not, occupant, refl, slice_get, slice_get_within, slice_set, staying, subst, suc, sym, take, true, zero, ℕ, ◌++◌, ◌+◌, ◌<◌, ◌==◌, ◌∙◌, ◌∷◌, ◌≡◌, ◌≤◌}
+use Rattle.iox2_container.proofs.Prelude.{All, All-filter, All-head, All-tail, All-weaker, AreOthers, Bool, CallbackProgression, CalledInTurn, CalledOnCell, Continue, Entry, Found, IsNextOf, List, MayCall, MayVisit, None, NoneFrom, Occupant, Option, SlotIsOf, Some, Stop, Swept, TakesCell, Visits, [], add-one, ap, append-nil, arith, candidates, cell_is_of, drop, entries_from, eq-eqb, false, filter-append, if◌then◌else◌, inl, inr, is_leaving, is_of, leb_tells, length, length-append, length-set, length-take, map, map-append, ne_eqb, not, occupant, refl, slice_get, slice_get_within, slice_set, staying, subst, suc, sym, take, true, zero, ℕ, ◌++◌, ◌+◌, ◌<◌, ◌==◌, ◌∙◌, ◌∷◌, ◌≡◌, ◌≤◌}
 use Rattle.iox2_container.proofs.CellEntries.{same_entry, below_from, all_before}
 use Rattle.iox2_container.proofs.Lists.{get_set_other}
 
@@ -41,58 +41,6 @@ taken_free low zero (None ∷ cells) h = refl
 taken_free low zero (Some o ∷ cells) h = (cc)
 taken_free low (suc i) (None ∷ cells) h = taken_free (low + 1) i cells h
 taken_free low (suc i) (Some o ∷ cells) h = rw (taken_free (low + 1) i cells h) refl
-
--- so far each answer was `Continue`
-abbrev pub GoesOn : {F T : Type 0} → (F → T → CallbackProgression → F → Type 0) → F → List T → F
-    → Type 0
-GoesOn calls f items g = CalledInTurn calls f items (map (λ _. Continue) items) g
-
-visits_rest : {F T : Type 0} (calls : F → T → CallbackProgression → F → Type 0) (f : F)
-    (seen : List T) (g : F) (rest : List T) (h : F) → GoesOn calls f seen g
-    → Visits calls g rest h → Visits calls f (seen ++ rest) h
-visits_rest calls f [] g rest h w v = rw w at v
-visits_rest calls f (x ∷ xs) g rest h w v = inr (w.0, w.1, visits_rest calls w.0 xs g rest h w.2 v)
-
-details_more : {T : Type 0} (i : ℕ) (cells : List (Option (Occupant T))) (t : ℕ) (d : T)
-    → slice_get cells i ≡ Some (Some (occupant t d))
-    → details_of (entries_from 0 (take (suc i) cells)) ≡ details_of (entries_from 0 (take i cells))
-    ++ d ∷ []
-details_more {T} i cells t d h =
-    let x : Entry T = record { slot = i; ticket = t; details = d } in
-    ap details_of (taken_more 0 i cells x h (omega arith))
-    ∙ map-append (λ e. e.details) (entries_from 0 (take i cells)) (x ∷ [])
-
-pub goes_on : {F T : Type 0} (calls : F → T → CallbackProgression → F → Type 0) (f g h : F)
-    (cells : List (Option (Occupant T))) (i : ℕ) (cell : Option (Occupant T))
-    (answer : CallbackProgression) → slice_get cells i ≡ Some cell
-    → CalledOnCell calls g cell answer h → answer ≡ Continue
-    → GoesOn calls f (details_of (entries_from 0 (take i cells))) g
-    → GoesOn calls f (details_of (entries_from 0 (take (suc i) cells))) h
-goes_on calls f g h cells i None answer is a c w = rw a.1 (rw (taken_free 0 i cells is) w)
-goes_on {F} {T} calls f g h cells i (Some o) answer is a c w =
-    let seen : List T = details_of (entries_from 0 (take i cells)) in
-    rw (details_more i cells o.ticket o.details is, map-append (λ _. Continue) seen)
-    (CalledInTurn-push calls f seen (map (λ _. Continue) seen) g o.details Continue h w (rw c at a))
-
-pub stops : {F T : Type 0} (calls : F → T → CallbackProgression → F → Type 0) (f g h : F)
-    (cells : List (Option (Occupant T))) (i : ℕ) (cell : Option (Occupant T))
-    (answer : CallbackProgression) → slice_get cells i ≡ Some cell
-    → CalledOnCell calls g cell answer h → answer ≡ Stop
-    → GoesOn calls f (details_of (entries_from 0 (take i cells))) g
-    → Visit calls f (details_of (entries_from 0 cells)) h
-stops {F} {T} calls f g h cells i None answer is a c w = grind arith
-stops {F} {T} calls f g h cells i (Some o) answer is a c w =
-    let split = entries_split 0 (suc i) cells in
-    let seen : List T = details_of (entries_from 0 (take i cells)) in
-    record {
-      visits = rw (split.1, map-append, details_more i cells o.ticket o.details is, append_assoc)
-          (visits_rest calls f seen g (o.details ∷ details_of split.0) h w (inl (rw c at a)));
-    }
-
-pub ends : {F T : Type 0} (calls : F → T → CallbackProgression → F → Type 0) (f g : F)
-    (items : List T) → GoesOn calls f items g → Visit calls f items g
-ends calls f g items w =
-    record { visits = rw append-nil at (visits_rest calls f items g [] g w refl) }
 
 pub not_stop : (a : CallbackProgression) → (a ≡ Stop → ⊥) → a ≡ Continue
 not_stop Continue h = refl
@@ -290,6 +238,27 @@ module _ {F T : Type 0} (takes : F → T → Type 0)
       × ((h : F) → CalledOnCell calls f cell Continue h
       → MayVisit takes calls h (details_from (i + 1) cells))
   visit_at f cells i cell is m = grind (arith, add-one, shows, drop_one)
+
+-- a visit of the cells from one on, whose callback was called on the first
+module _ {F T : Type 0} (calls : F → T → CallbackProgression → F → Type 0) where
+  visited : (f g h : F) (i : ℕ) (cell : Option (Occupant T)) (rest : List (Option (Occupant T)))
+      → CalledOnCell calls f cell Continue g
+      → Visits calls g (details_of (entries_from (i + 1) rest)) h
+      → Visits calls f (details_of (entries_from i (cell ∷ rest))) h
+  visited f g h i None rest a v = rw a.1 at v
+  visited f g h i (Some o) rest a v = inr (g, a, v)
+
+  pub goes_on : (f g h : F) (cells : List (Option (Occupant T))) (i : ℕ)
+      (cell : Option (Occupant T)) → slice_get cells i ≡ Some cell
+      → CalledOnCell calls f cell Continue g → Visits calls g (details_from (i + 1) cells) h
+      → Visits calls f (details_from i cells) h
+  goes_on f g h cells i cell is a v = grind (arith, add-one, visited, drop_one)
+
+  pub stops : (f h : F) (cells : List (Option (Occupant T))) (i : ℕ)
+      (cell : Option (Occupant T)) → slice_get cells i ≡ Some cell
+      → CalledOnCell calls f cell Stop h → Visits calls f (details_from i cells) h
+  stops f h cells i None is a = grind arith
+  stops f h cells i (Some o) is a = grind (arith, drop_one)
 
 -- the candidates from a cell on
 candidate_here : {T : Type 0} (is_dead : T → Bool) (cells : List (Option (Occupant T)))

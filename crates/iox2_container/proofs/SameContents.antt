@@ -202,13 +202,7 @@ module _ {T : Type 0} {a b a' b' : RegistryState T} (l : SameContents a b) (v : 
         → AreAmong a'.entries b'.entries → AreAmong b'.entries a'.entries
         → Outcome a' b' (Reply.State t) (Reply.State u)
     released_same t u ea eb st su there back =
-        let alike = alike_after l v w ea eb l.used
-        (rw (as_long l, same_length v w there back, l.locked) refl) there back in
-        record {
-          same = ap Reply.State (st ∙ (ap release_state alike.locked ∙ sym su));
-          alike = alike;
-          handles = tt;
-        }
+        grind (arith, alike_after, as_long, same_length, release_state)
 
     remove_same : (h k : Handle) (r s : Result ReleaseState ContainerRemoveError)
         → KnowBoth a b (Some h) (Some k) → RemoveStep a h mode r a' → RemoveStep b k mode s b'

@@ -16,9 +16,9 @@ use Rattle.iox2_container.specs.contracts.container.free.FreeList as FreeList
 use Rattle.iox2_container.specs.contracts.container.free.FreeListSlotAllocator.TheImpl as FreeListSlotAllocator
 use Rattle.iox2_container.specs.contracts.container.slot_map.SlotMap as SlotMap
 use Rattle.iox2_container.specs.contracts.container.counted_map.CountedMap.TheInside as Inside
-use Rattle.iox2_container.specs.contracts.container.slots.EntrySlots as EntrySlots
-use Rattle.iox2_container.specs.contracts.container.slots.Slots as Slots
-use Rattle.iox2_container.specs.contracts.container.touches.Touches as Touches
+use Rattle.iox2_container.specs.contracts.container.slot_map.slots.EntrySlots as EntrySlots
+use Rattle.iox2_container.specs.contracts.container.slot_map.slots.Slots as Slots
+use Rattle.iox2_container.specs.contracts.container.slot_map.Touches as Touches
 use Rattle.iox2_container.specs.declared.container.free.SlotAllocator.{Ghosts as SlotAllocatorGhosts}
 
 Touches-send : IsSend Touches.the_row

@@ -14,8 +14,6 @@ mod release;
 mod role;
 mod service_numbers;
 mod slot_map;
-mod slots;
-mod touches;
 
 pub use comparison::{RegistryCall, RegistryReply, compare};
 pub use handle::ContainerHandle;
@@ -24,5 +22,5 @@ pub use registry::{Attached, Registry, entries};
 pub use release::{ReleaseMode, ReleaseState};
 pub use role::Role;
 pub use service_numbers::ServiceNumbers;
+pub use slot_map::slots::Slots;
 pub use slot_map::{Container, ListContainer};
-pub use slots::Slots;

@@ -2,6 +2,7 @@
 use Rattle.iox2_dynamic.proofs.Names.{PatternKind, Role, HasRole, LacksRole, role_at, side_of, ContainerAddFailure, IsLocked, OutOfSpace, Handle, RegistryState, AddStep, TakesEntry, PortDetails, node_of, role_of, AddsTo, Ports, TakesIn, Side, of_side, First, Second, Service, TakesPort, entries_of_node, first_role, second_role, AttachStep, RegisterStep, ContainerState, IsService, Admits, AttachesTo, NoSpace}
 use Rattle.std.proofs.Common.{◌≡◌, Bool, true, false, Option, Some, None, inl, inr, refl, sym, ◌≢◌, ℕ, ◌<◌, true≢false, Result, Ok, Err, ◌∙◌, arith}
 use Rattle.std.specs.Prelude.{◌↔◌, IfNone, IfSome, IsTrue, is_some, IsOk}
+use Rattle.std.specs.Result.{result_or}
 use Rattle.iox2_dynamic.specs.declared.dynamic_config.answers.AttachError.{AttachError}
 use Rattle.iox2_dynamic.specs.declared.dynamic_config.answers.RegisterNodeResult.{RegisterNodeResult}
 use Rattle.iox2_dynamic.specs.declared.dynamic_config.answers.RegisterNodeResult.TheVariants.{MarkedForDestruction, ExceedsMaxNumberOfNodes}
@@ -101,13 +102,10 @@ is_open Second s i = i.ports_are.second.is_open
 
 module _ (a b : Role) (nodes : ContainerState ℕ) (old new : Ports) (d : PortDetails)
     (admits : Admits nodes (node_of d) (Ok tt)) where
-  pub attaches : (handle : Handle) → AddsTo a b old d (Ok handle) new
-      → AttachesTo a b nodes old d (Ok handle) new
-  attaches handle adds pattern first second i = (admits, (rw (first, second) adds, refl))
-
-  pub is_full : (why : ContainerAddFailure) → AddsTo a b old d (Err why) new
-      → AttachesTo a b nodes old d (Err NoSpace) new
-  is_full OutOfSpace adds pattern first second i = (admits, (rw (first, second) adds, refl))
-  is_full IsLocked adds pattern first second i =
+  pub attaches : (answer : Result Handle ContainerAddFailure) → AddsTo a b old d answer new
+      → AttachesTo a b nodes old d (result_or answer (Err NoSpace)) new
+  attaches (Ok handle) adds pattern first second i = (admits, (rw (first, second) adds, refl))
+  attaches (Err OutOfSpace) adds pattern first second i = (admits, (rw (first, second) adds, refl))
+  attaches (Err IsLocked) adds pattern first second i =
       let s : Service = record { pattern = pattern; ports = old; nodes = nodes } in
       absurd (not_false (sym adds.step.step.0 ∙ is_open adds.side s i))

@@ -29,6 +29,7 @@ pub fn locked_services_have_no_port()
 
 /// The ports of a dead node that are left by its recovery are as many as its callback kept: a port
 /// is left exactly where it returned `SkipPort` for one.
+#[tactic(auto, using(crate::proofs::Recoveries::skipped_are_left))]
 pub fn skipped_ports_are_left()
     ensures { (dead : ℕ) (old new : RegistryState PortDetails) (marked : ℕ → Bool)
         (mode : ReleaseMode) (state : ReleaseState)

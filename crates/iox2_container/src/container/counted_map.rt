@@ -14,7 +14,7 @@ use super::refusal::{ContainerAddFailure, ContainerRemoveError};
 use super::registry::Attached;
 use super::release::{ReleaseMode, ReleaseState};
 use super::role::Role;
-use super::slots::EntrySlots;
+use super::slot_map::slots::EntrySlots;
 use iox2_ids::identifiers::UniqueNodeId;
 use std::alloc::{AllocError, Global};
 use std::marker::Model;

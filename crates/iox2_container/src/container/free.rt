@@ -9,7 +9,7 @@ ghost use Rattle.iox2_container.specs.SlotEntries.{IsTakenAt, NoneFrom, entries_
 ghost use Rattle.iox2_container.specs.FreeList.{AreFreed, IsFreeList, PutsFirst};
 
 use super::cell::Cell;
-use super::slots::EntrySlots;
+use super::slot_map::slots::EntrySlots;
 use std::fmt::Debug;
 
 /// Finds free slots, by what it keeps and what the slots keep.

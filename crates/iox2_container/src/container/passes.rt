@@ -12,16 +12,8 @@ use super::cell::with_ticket;
 use super::free::SlotAllocator;
 use super::handle::ContainerHandle;
 use super::registry::Attached;
-use super::slots::EntrySlots;
+use super::slot_map::slots::EntrySlots;
 use iox2_ids::identifiers::UniqueNodeId;
-
-/// Calls the callback once.
-pub(super) fn call<T: Copy, R, F: FnMut(&T) -> R>(details: T, f: &mut F) -> R
-    requires { TakesAt F.FnMut f.old details }
-    ensures { CalledAt F.FnMut f.old details result f.new }
-{
-    f(&details)
-}
 
 /// An entry that a search found, and where.
 #[derive(Clone, Copy)]
@@ -30,8 +22,41 @@ struct Found<T: Copy> {
     details: T,
 }
 
-/// The same as [`next_of`], one slot after another.
-fn next_by_one<T: Attached + Copy, N: Copy>(
+/// Whether one of this many slots from one on has an entry of the node. The first that is found is
+/// written where the caller says, so that nothing is written where nothing is found.
+#[inline(always)]
+fn has_next<T: Attached + Copy, N: Copy>(
+    slots: &mut EntrySlots<T, N>,
+    start: usize,
+    number: usize,
+    node: &UniqueNodeId,
+    found: &mut Option<Found<T>>,
+) -> bool
+    requires within { start + number ≤ length slots.old.cells }
+    requires nothing { found.old ≡ None }
+    ensures cells { slots.new.cells ≡ slots.old.cells }
+    ensures touches { slots.new.touches
+        ≡ slots.old.touches + looked_at start (start + number) found.new }
+    ensures some { IsTrue result → IsSome found.new }
+    ensures none { result ≡ false → found.new ≡ None }
+    ensures found { MatchOption found.new
+        (AreOthers T.node node.now (map shown slots.old.cells) start (start + number))
+        (IsNextOf T.node node.now (map shown slots.old.cells) start (start + number)) }
+{
+    // For the proof: the number of slots fits a `usize`.
+    let _fits = slots.len();
+    for i in 0..number {
+        let slot = start + i;
+        if let Some(details) = slots.look_for(slot, node) {
+            *found = Some(Found { slot, details });
+            return true;
+        }
+    }
+    false
+}
+
+/// The same as [`next_of`], for the few slots that are left.
+fn next_of_few<T: Attached + Copy, N: Copy>(
     slots: &mut EntrySlots<T, N>,
     start: usize,
     end: usize,
@@ -45,62 +70,9 @@ fn next_by_one<T: Attached + Copy, N: Copy>(
         (AreOthers T.node node.now (map shown slots.old.cells) start end)
         (IsNextOf T.node node.now (map shown slots.old.cells) start end) }
 {
-    for slot in start..end {
-        if let Some(details) = slots.look_for(slot, node) {
-            return Some(Found { slot, details });
-        }
-    }
-    None
-}
-
-/// The same as [`next_of`], for four slots, and whether one of them has an entry of the node. What
-/// is found is written where the caller says, so that nothing is written where nothing is found.
-#[inline(always)]
-fn next_of_four<T: Attached + Copy, N: Copy>(
-    slots: &mut EntrySlots<T, N>,
-    slot: usize,
-    node: &UniqueNodeId,
-    found: &mut Option<Found<T>>,
-) -> bool
-    requires within { slot + 4 ≤ length slots.old.cells }
-    requires nothing { found.old ≡ None }
-    ensures cells { slots.new.cells ≡ slots.old.cells }
-    ensures touches { slots.new.touches
-        ≡ slots.old.touches + looked_at slot (slot + 4) found.new }
-    ensures some { IsTrue result → IsSome found.new }
-    ensures none { result ≡ false → found.new ≡ None }
-    ensures found { MatchOption found.new
-        (AreOthers T.node node.now (map shown slots.old.cells) slot (slot + 4))
-        (IsNextOf T.node node.now (map shown slots.old.cells) slot (slot + 4)) }
-{
-    // For the proof: the number of slots fits a `usize`.
-    let _fits = slots.len();
-    if let Some(details) = slots.look_for(slot, node) {
-        *found = Some(Found { slot, details });
-        return true;
-    }
-    if let Some(details) = slots.look_for(slot + 1, node) {
-        *found = Some(Found {
-            slot: slot + 1,
-            details,
-        });
-        return true;
-    }
-    if let Some(details) = slots.look_for(slot + 2, node) {
-        *found = Some(Found {
-            slot: slot + 2,
-            details,
-        });
-        return true;
-    }
-    if let Some(details) = slots.look_for(slot + 3, node) {
-        *found = Some(Found {
-            slot: slot + 3,
-            details,
-        });
-        return true;
-    }
-    false
+    let mut found = None;
+    has_next(slots, start, end - start, node, &mut found);
+    found
 }
 
 /// The first entry of the node from one slot on and before the end. It reads each slot up to that
@@ -122,15 +94,12 @@ fn next_of<T: Attached + Copy, N: Copy>(
     let mut found = None;
     let mut slot = start;
     while end - slot >= 8 {
-        if next_of_four(slots, slot, node, &mut found) {
-            return found;
-        }
-        if next_of_four(slots, slot + 4, node, &mut found) {
+        if has_next(slots, slot, 8, node, &mut found) {
             return found;
         }
         slot += 8;
     }
-    next_by_one(slots, slot, end, node)
+    next_of_few(slots, slot, end, node)
 }
 
 /// Clears the slot of an entry that was found, if the callback says so.
@@ -150,7 +119,7 @@ fn sweep_found<T: Attached + Copy, S: SlotAllocator<T>, F: FnMut(&T) -> bool>(
         else map shown slots.old.cells) }
     ensures touches { slots.new.touches ≡ slots.old.touches + (if result then 1 else 0) }
 {
-    let goes = call(found.details, f);
+    let goes = f(&found.details);
     if goes {
         free.clear(slots, found.slot);
     }

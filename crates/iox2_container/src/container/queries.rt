@@ -11,12 +11,19 @@ ghost use Rattle.iox2_container.specs.Steps.{Visit, candidates, is_of};
 
 use super::cell::{Occupant, with_ticket};
 use super::handle::ContainerHandle;
-use super::passes::call;
 use super::registry::Attached;
-use super::slot_map::Looks;
-use super::slots::EntrySlots;
+use super::slot_map::Touches;
+use super::slot_map::slots::EntrySlots;
 use iox2_ids::identifiers::UniqueNodeId;
 use iox2_texts::bounded::CallbackProgression;
+
+/// Calls the callback once.
+fn call<T: Copy, F: FnMut(&T) -> CallbackProgression>(details: T, f: &mut F) -> CallbackProgression
+    requires { TakesAt F.FnMut f.old details }
+    ensures { CalledAt F.FnMut f.old details result f.new }
+{
+    f(&details)
+}
 
 /// Calls the callback with the entry of a slot, if it has one.
 fn show<T: Copy, F: FnMut(&T) -> CallbackProgression>(
@@ -38,14 +45,14 @@ pub(super) fn visit<T: Copy, N: Copy, F: FnMut(&T) -> CallbackProgression>(
     slots: &EntrySlots<T, N>,
     end: usize,
     f: &mut F,
-    looks: &mut Looks,
+    looks: &mut Touches,
 )
     requires within { end ≤ length slots.now.cells }
     requires free { NoneFrom (map shown slots.now.cells) end }
     requires callable { CanVisit (TakesAt F.FnMut) (CalledAt F.FnMut) f.old
         (details_in (map shown slots.now.cells)) }
     ensures visit { Visit (CalledAt F.FnMut) f.old (details_in (map shown slots.now.cells)) f.new }
-    ensures looks { looks.new.touches.count ≤ looks.old.touches.count + length slots.now.cells }
+    ensures looks { looks.new.count ≤ looks.old.count + length slots.now.cells }
 {
     for slot in 0..end {
         if let CallbackProgression::Stop = show(slots.peek_at(slot, looks), f) {
@@ -58,11 +65,11 @@ pub(super) fn visit<T: Copy, N: Copy, F: FnMut(&T) -> CallbackProgression>(
 pub(super) fn find<T: Copy, N: Copy>(
     slots: &EntrySlots<T, N>,
     handle: ContainerHandle,
-    looks: &mut Looks,
+    looks: &mut Touches,
 ) -> Option<T>
     requires { handle.slot < length slots.now.cells }
     ensures found { Finds (map shown slots.now.cells) handle result }
-    ensures looks { looks.new.touches.count ≡ looks.old.touches.count + 1 }
+    ensures looks { looks.new.count ≡ looks.old.count + 1 }
 {
     with_ticket(slots.peek_at(handle.slot(), looks), handle.ticket())
 }
@@ -74,14 +81,14 @@ fn has_between<T: Attached + Copy, N: Copy>(
     start: usize,
     end: usize,
     node: &UniqueNodeId,
-    looks: &mut Looks,
+    looks: &mut Touches,
 ) -> bool
     requires order { start ≤ end }
     requires within { end ≤ length slots.now.cells }
-    ensures looks { looks.new.touches.count + start ≤ looks.old.touches.count + end }
+    ensures looks { looks.new.count + start ≤ looks.old.count + end }
     ensures has { MatchBool result
         (IsLastOf T.node node.now (map shown slots.now.cells) start end
-        looks.old.touches.count looks.new.touches.count)
+        looks.old.count looks.new.count)
         (AreOthers T.node node.now (map shown slots.now.cells) start end) }
 {
     let mut slot = end;
@@ -103,17 +110,17 @@ pub(super) fn has_entry<T: Attached + Copy, N: Copy>(
     newest_end: usize,
     end: usize,
     node: &UniqueNodeId,
-    looks: &mut Looks,
+    looks: &mut Touches,
 ) -> bool
     requires within { end ≤ length slots.now.cells }
     requires free { NoneFrom (map shown slots.now.cells) end }
     ensures has { result ≡ nat_lt 0
         (length (candidates (is_of T.node node.now)
         (entries_from 0 (map shown slots.now.cells)))) }
-    ensures looks { looks.new.touches.count ≤ looks.old.touches.count + length slots.now.cells }
+    ensures looks { looks.new.count ≤ looks.old.count + length slots.now.cells }
     ensures newest { (slot : ℕ) → newest_end ≡ slot + 1
         → SlotIsOf T.node node.now (map shown slots.now.cells) slot true
-        → looks.new.touches.count ≡ looks.old.touches.count + 1 }
+        → looks.new.count ≡ looks.old.count + 1 }
 {
     let middle = newest_end.min(end);
     has_between(slots, 0, middle, node, looks) || has_between(slots, middle, end, node, looks)
@@ -125,11 +132,11 @@ pub(super) fn count_of<T: Attached + Copy, N: Copy>(
     slots: &EntrySlots<T, N>,
     end: usize,
     node: &UniqueNodeId,
-    looks: &mut Looks,
+    looks: &mut Touches,
 ) -> usize
     requires within { end ≤ length slots.now.cells }
     requires free { NoneFrom (map shown slots.now.cells) end }
-    ensures looks { looks.new.touches.count ≤ looks.old.touches.count + length slots.now.cells }
+    ensures looks { looks.new.count ≤ looks.old.count + length slots.now.cells }
     ensures count { result ≡
         length (candidates (is_of T.node node.now) (entries_from 0 (map shown slots.now.cells))) }
 {

@@ -1,5 +1,6 @@
 //! The one container, whatever finds its free slots.
-ghost use Rattle.std.specs.Prelude.{◌≡◌, ◌+◌, IfOk};
+ghost use Rattle.std.specs.Prelude.{◌≡◌, ◌+◌, ℕ, IfOk};
+ghost use Rattle.std.specs.Borrow.{ftrue};
 ghost use Rattle.iox2_container.specs.ContainerState.{fresh};
 
 use super::counted_map::CountedMap;
@@ -10,34 +11,39 @@ use super::refusal::{ContainerAddFailure, ContainerRemoveError};
 use super::registry::{Attached, Registry};
 use super::release::{ReleaseMode, ReleaseState};
 use super::role::Role;
-use super::touches::Touches;
 use iox2_ids::identifiers::UniqueNodeId;
 use iox2_texts::bounded::CallbackProgression;
 use std::alloc::{AllocError, Global};
 use std::marker::Model;
 
-/// A count for proofs of how often a call that changes nothing read slots. It takes no bytes. The
-/// calls of a registry alone begin a count.
-#[derive(Drop)]
-pub(crate) struct Looks {
-    touches: Touches,
+pub(super) mod slots;
+
+/// A count for proofs: how often slots were read or written, or, in a call that changes nothing,
+/// how often it looked at one. It takes no bytes, and its functions do nothing when they run. They
+/// are private, so that new slots and the calls of a registry alone begin a count, and the calls of
+/// slots alone raise one.
+#[derive(Debug, Drop)]
+pub(crate) struct Touches {
+    pub(crate) ghost count: { ℕ },
 }
 
-impl Looks {
-    /// No look so far.
+impl Model for Touches {
+    ghost also_owns = { λ _. ftrue };
+}
+
+impl Touches {
+    /// None so far.
     fn none() -> Self
-        ensures { result.touches.count ≡ 0 }
+        ensures { result.count ≡ 0 }
     {
-        Looks {
-            touches: Touches::none(),
-        }
+        Touches {}
     }
 
-    /// Counts one look.
-    pub(crate) fn count(&mut self)
-        ensures { self.new.touches.count ≡ self.old.touches.count + 1 }
+    /// One more.
+    fn one_more(&self) -> Self
+        ensures { result.count ≡ self.now.count + 1 }
     {
-        self.touches = self.touches.one_more();
+        Touches {}
     }
 }
 
@@ -127,7 +133,7 @@ impl<T: Attached + Copy, S: SlotAllocator<T>> Registry<T> for SlotMap<T, S> {
     fn for_each<F: FnMut(&T) -> CallbackProgression>(&self, f: &mut F) {
         if self.map.header.count > 0 {
             let end = self.map.free.end(&self.map.slots);
-            visit(&self.map.slots, end, f, &mut Looks::none());
+            visit(&self.map.slots, end, f, &mut Touches::none());
         }
     }
 
@@ -135,7 +141,7 @@ impl<T: Attached + Copy, S: SlotAllocator<T>> Registry<T> for SlotMap<T, S> {
         if !self.map.header.may_have(handle, self.map.slots.len()) {
             return None;
         }
-        find(&self.map.slots, handle, &mut Looks::none())
+        find(&self.map.slots, handle, &mut Touches::none())
     }
 
     fn entries_of(&self, node: &UniqueNodeId) -> usize {
@@ -143,7 +149,7 @@ impl<T: Attached + Copy, S: SlotAllocator<T>> Registry<T> for SlotMap<T, S> {
             return 0;
         }
         let end = self.map.free.end(&self.map.slots);
-        count_of(&self.map.slots, end, node, &mut Looks::none())
+        count_of(&self.map.slots, end, node, &mut Touches::none())
     }
 
     fn has_entry_of(&self, node: &UniqueNodeId) -> bool {
@@ -156,7 +162,7 @@ impl<T: Attached + Copy, S: SlotAllocator<T>> Registry<T> for SlotMap<T, S> {
             self.map.newest_end,
             end,
             node,
-            &mut Looks::none(),
+            &mut Touches::none(),
         )
     }
 

@@ -123,10 +123,7 @@ impl<A: PortKind, B: PortKind> PortRegistries<A, B> {
         ensures few { TouchesFew self.old self.new }
     {
         admit(nodes, &port.node_id())?;
-        match self.first.add(port) {
-            Ok(handle) => Ok(handle),
-            Err(_) => Err(AttachError::OutOfSpace),
-        }
+        self.first.add(port).or(Err(AttachError::OutOfSpace))
     }
 
     /// Attaches a port of the second kind to a service with these nodes.
@@ -141,10 +138,7 @@ impl<A: PortKind, B: PortKind> PortRegistries<A, B> {
         ensures few { TouchesFew self.old self.new }
     {
         admit(nodes, &port.node_id())?;
-        match self.second.add(port) {
-            Ok(handle) => Ok(handle),
-            Err(_) => Err(AttachError::OutOfSpace),
-        }
+        self.second.add(port).or(Err(AttachError::OutOfSpace))
     }
 
     /// Removes the port with this handle.

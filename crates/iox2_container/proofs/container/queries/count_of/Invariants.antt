@@ -7,5 +7,5 @@ invariant-loop-slot g l = record {
       ≡ length (candidates (is_of g.T.Attached.node l.node)
       (entries_from 0 (take l.slot (map shown l.slots.cells))));
   few : l.count ≤ l.slot;
-  looks : l.looks.touches.count ≡ l.fn.looks.touches.count + l.slot;
+  looks : l.looks.count ≡ l.fn.looks.count + l.slot;
 }

@@ -5,7 +5,7 @@ abbrev pub invariant-loop-slot : goal.invariant-loop-slot
 invariant-loop-slot g l = record {
   order : l.start ≤ l.slot;
   within : l.slot ≤ l.end;
-  looks : l.looks.touches.count + l.slot ≡ l.fn.looks.touches.count + l.end;
+  looks : l.looks.count + l.slot ≡ l.fn.looks.count + l.end;
   others : AreOthers g.T.Attached.node l.node (map shown l.slots.cells) l.slot l.end;
 }
 

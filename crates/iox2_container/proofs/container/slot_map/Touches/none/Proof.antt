@@ -11,9 +11,9 @@ use denote.Steps.{nothing}
 use denote.Triple.Entry.{alive}
 use denote.Triple.Walked.{says, ends_at}
 use Rattle.iox2_container.proofs.Walks.{none, none_made}
-use Rattle.iox2_container.specs.contracts.container.touches.Touches.none as f
-use Rattle.iox2_container.proofs.container.touches.Touches.none.Statement.{statement}
-use Rattle.iox2_container.proofs.container.touches.Touches.none.Code as code
+use Rattle.iox2_container.specs.contracts.container.slot_map.Touches.none as f
+use Rattle.iox2_container.proofs.container.slot_map.Touches.none.Statement.{statement}
+use Rattle.iox2_container.proofs.container.slot_map.Touches.none.Code as code
 
 pub none_spec : {M : Type 1} → statement M
 none_spec 𝓤 𝓛 𝓜 𝓡 wired =

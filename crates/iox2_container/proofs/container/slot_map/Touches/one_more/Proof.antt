@@ -16,10 +16,10 @@ use denote.Steps.{nothing}
 use denote.Triple.Entry.{alive}
 use denote.Triple.Walked.{says, Stays, stay_dropped, walk_of, ends_at, Goes-dropped}
 use Rattle.iox2_container.proofs.Walks.{none, none_made}
-use Rattle.iox2_container.specs.contracts.container.touches.Touches.{the_row}
-use Rattle.iox2_container.specs.contracts.container.touches.Touches.one_more as f
-use Rattle.iox2_container.proofs.container.touches.Touches.one_more.Statement.{statement}
-use Rattle.iox2_container.proofs.container.touches.Touches.one_more.Code as code
+use Rattle.iox2_container.specs.contracts.container.slot_map.Touches.{the_row}
+use Rattle.iox2_container.specs.contracts.container.slot_map.Touches.one_more as f
+use Rattle.iox2_container.proofs.container.slot_map.Touches.one_more.Statement.{statement}
+use Rattle.iox2_container.proofs.container.slot_map.Touches.one_more.Code as code
 
 abbrev stayed : Stays f.ended.signature.params f.ended.kept
 stayed = (stay_dropped _ yes, tt)

@@ -1,5 +1,5 @@
 use Rattle.iox2_container.proofs.Prelude.{replicate, vec_capacity, vec_len, ◌≡◌}
-use Rattle.iox2_container.proofs.container.slots.Slots.new.Given as goal
+use Rattle.iox2_container.proofs.container.slot_map.slots.Slots.new.Given as goal
 
 abbrev pub invariant-loop : goal.invariant-loop
 invariant-loop g l = record {

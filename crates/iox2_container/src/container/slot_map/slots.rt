@@ -6,10 +6,9 @@ ghost use Rattle.iox2_container.specs.declared.container.cell.Cell.TheVariants.{
 ghost use Rattle.iox2_container.specs.Cells.{shown};
 ghost use Rattle.iox2_container.specs.Passes.{IsAt, SlotIsOf};
 
-use super::cell::{Cell, Occupant};
-use super::registry::Attached;
-use super::slot_map::Looks;
-use super::touches::Touches;
+use super::Touches;
+use crate::container::cell::{Cell, Occupant};
+use crate::container::registry::Attached;
 use iox2_ids::identifiers::UniqueNodeId;
 use std::alloc::{AllocError, Global};
 use std::marker::Model;
@@ -113,7 +112,7 @@ impl<T: Attached + Copy, N: Copy> Slots<Cell<T, N>> {
 }
 
 /// Slots with entries, each with its ticket. A free slot keeps an `N`. Each call but `len` is a
-/// touch, or, where it takes [`Looks`], a look.
+/// touch, or, where it is given a count of looks, a look.
 #[derive(Debug, Drop)]
 pub struct EntrySlots<T: Copy, N: Copy> {
     slots: Slots<Cell<T, N>>,
@@ -176,12 +175,12 @@ impl<T: Copy, N: Copy> EntrySlots<T, N> {
     }
 
     /// The entry of a slot. This is a look.
-    pub(crate) fn peek_at(&self, slot: usize, looks: &mut Looks) -> Option<Occupant<T>>
+    pub(crate) fn peek_at(&self, slot: usize, looks: &mut Touches) -> Option<Occupant<T>>
         requires { slot < length self.now.cells }
         ensures cell { slice_get (map shown self.now.cells) slot ≡ Some result }
-        ensures looks { looks.new.touches.count ≡ looks.old.touches.count + 1 }
+        ensures looks { looks.new.count ≡ looks.old.count + 1 }
     {
-        looks.count();
+        *looks = looks.one_more();
         self.slots.peek(slot).occupant()
     }
 }
@@ -202,12 +201,12 @@ impl<T: Attached + Copy, N: Copy> EntrySlots<T, N> {
 
     /// Whether the entry in a slot is the node's. This is a look.
     #[inline(always)]
-    pub(crate) fn has_at(&self, slot: usize, node: &UniqueNodeId, looks: &mut Looks) -> bool
+    pub(crate) fn has_at(&self, slot: usize, node: &UniqueNodeId, looks: &mut Touches) -> bool
         requires { slot < length self.now.cells }
         ensures has { SlotIsOf T.node node.now (map shown self.now.cells) slot result }
-        ensures looks { looks.new.touches.count ≡ looks.old.touches.count + 1 }
+        ensures looks { looks.new.count ≡ looks.old.count + 1 }
     {
-        looks.count();
+        *looks = looks.one_more();
         self.slots.cells[slot].is_of(node)
     }
 }
