@@ -2,7 +2,6 @@
 use Rattle.std.specs.Prelude.{◌≡◌, ◌⊎◌, ⊤, ℕ, Bool, if◌then◌else◌, nat_lt, List, [], ◌∷◌, length, take, replicate, Result, Ok, Err, IfOk, String, string_bytes}
 use lib.Chars.{codes}
 use Rattle.std.specs.declared.alloc.Global.{Global}
-use Rattle.std.specs.declared.time.Duration.{Duration}
 use Rattle.iox2_config.specs.GlobalSettings.{GlobalSettings}
 use Rattle.iox2_config.specs.declared.config.Config.{Config}
 use Rattle.iox2_config.specs.declared.config.defaults.Defaults.{Defaults}
@@ -127,10 +126,9 @@ IsFirstBadName t bad =
     ⊎ (IsFileName (bytes_of t.prefix) × HasServiceNames t
     × IsFirstBad IsFileName bad_name (node_names_of t) bad)
 
--- the settings of services' files
-abbrev pub service_of : PlainTexts → Bool → Service
-service_of t on_open = record {
-  directory = bytes_of t.service_directory;
+-- settings with these ends of the names of services' files
+abbrev pub with_service_names : PlainTexts → Service → Service
+with_service_names t s = record s {
   data_segment_suffix = bytes_of t.data_segment_suffix;
   static_config_storage_suffix = bytes_of t.static_config_storage_suffix;
   dynamic_config_storage_suffix = bytes_of t.dynamic_config_storage_suffix;
@@ -138,38 +136,55 @@ service_of t on_open = record {
   event_connection_suffix = bytes_of t.event_connection_suffix;
   blackboard_mgmt_suffix = bytes_of t.blackboard_mgmt_suffix;
   blackboard_data_suffix = bytes_of t.blackboard_data_suffix;
-  cleanup_dead_nodes_on_open = on_open;
 }
 
--- the settings of nodes' files
-abbrev pub node_of : PlainTexts → PlainGlobal → Node
-node_of t s = record {
-  directory = bytes_of t.node_directory;
+-- the same of nodes' files
+abbrev pub with_node_names : PlainTexts → Node → Node
+with_node_names t n = record n {
   monitor_suffix = bytes_of t.monitor_suffix;
   static_config_suffix = bytes_of t.node_static_config_suffix;
   service_tag_suffix = bytes_of t.service_tag_suffix;
   port_tag_suffix = bytes_of t.port_tag_suffix;
   global_mgmt_suffix = bytes_of t.global_mgmt_suffix;
-  cleanup_dead_nodes_on_creation = s.cleanup_dead_nodes_on_creation;
-  cleanup_dead_nodes_on_destruction = s.cleanup_dead_nodes_on_destruction;
 }
 
--- the settings of a system
-abbrev pub system_of : PlainTexts → PlainGlobal → Duration → GlobalSettings
-system_of t s timeout = record {
-  root_path = bytes_of t.root_path;
+-- settings with these names
+abbrev pub with_names : PlainTexts → GlobalSettings → GlobalSettings
+with_names t g = record g {
   prefix = bytes_of t.prefix;
-  service = service_of t s.cleanup_dead_nodes_on_open;
-  node = node_of t s;
-  creation_timeout = timeout;
+  service = with_service_names t g.service;
+  node = with_node_names t g.node;
 }
+
+-- settings with these paths
+abbrev pub with_paths : PlainTexts → GlobalSettings → GlobalSettings
+with_paths t g = record g {
+  root_path = bytes_of t.root_path;
+  service = record g.service { directory = bytes_of t.service_directory };
+  node = record g.node { directory = bytes_of t.node_directory };
+}
+
+-- settings with these flags
+abbrev pub with_flags : PlainGlobal → GlobalSettings → GlobalSettings
+with_flags s g = record g {
+  service = record g.service { cleanup_dead_nodes_on_open = s.cleanup_dead_nodes_on_open };
+  node = record g.node {
+    cleanup_dead_nodes_on_creation = s.cleanup_dead_nodes_on_creation;
+    cleanup_dead_nodes_on_destruction = s.cleanup_dead_nodes_on_destruction;
+  };
+}
+
+-- the settings have these texts and flags
+abbrev pub HasGiven : PlainConfig → GlobalSettings → Type 0
+HasGiven given made =
+    made ≡ with_flags given.global (with_names given.texts (with_paths given.texts made))
 
 -- the settings of a system that were given, or what is not valid: paths are looked at first, then
 -- names, and then the timeout
 abbrev pub ReadsSystem : PlainConfig → Result GlobalSettings Unfit → Type 0
 ReadsSystem given (Ok made) =
-    HasPaths given.texts × HasNames given.texts × (timeout : Duration)
-    × ReadsGlobal given.global (Ok timeout) × (made ≡ system_of given.texts given.global timeout)
+    HasPaths given.texts × HasNames given.texts
+    × ReadsGlobal given.global (Ok made.creation_timeout) × HasGiven given made
 ReadsSystem given (Err (unfit.Text bad)) =
     IsFirstBad IsPath bad_path (paths_of given.texts) (bad_view bad)
     ⊎ (HasPaths given.texts × IsFirstBadName given.texts (bad_view bad))

@@ -49,52 +49,25 @@ pub struct PlainFault {
     pub reason_length: usize,
 }
 
-/// The number of a table of the file.
+/// The number of a table of the file: they are numbered in their order, from 0.
 pub(crate) fn section_number(section: Section) -> u32
     ensures { result ≡ section_number section }
 {
-    match section {
-        Section::Root => 0,
-        Section::Global => 1,
-        Section::Service => 2,
-        Section::Node => 3,
-        Section::Defaults => 4,
-        Section::PublishSubscribe => 5,
-        Section::Event => 6,
-        Section::RequestResponse => 7,
-        Section::Blackboard => 8,
-    }
+    section as u32
 }
 
-/// The number of a type of TOML.
+/// The number of a type of TOML: they are numbered in their order, from 1.
 fn type_number(found: TomlType) -> u32
     ensures { result ≡ type_number found }
 {
-    match found {
-        TomlType::String => 1,
-        TomlType::Integer => 2,
-        TomlType::Float => 3,
-        TomlType::Boolean => 4,
-        TomlType::Datetime => 5,
-        TomlType::Array => 6,
-        TomlType::Table => 7,
-    }
+    found as u32 + 1
 }
 
-/// The number of what a value may be.
+/// The number of what a value may be, in their order from 1.
 fn kind_number(wanted: Kind) -> u32
     ensures { result ≡ kind_number wanted }
 {
-    match wanted {
-        Kind::Table => 1,
-        Kind::Number => 2,
-        Kind::Flag => 3,
-        Kind::Path => 4,
-        Kind::FileName => 5,
-        Kind::Backpressure => 6,
-        Kind::Allocation => 7,
-        Kind::Duration => 8,
-    }
+    wanted as u32 + 1
 }
 
 /// The status of what is wrong with a value.

@@ -1,14 +1,13 @@
 //! Settings that a caller filled, as the text of a file.
-ghost use Rattle.std.specs.Prelude.{◌≡◌, IfOk, IfErr};
+ghost use Rattle.std.specs.Prelude.{◌≡◌, IfErr, IfOk, OnOk, Ok, Err};
 ghost use Rattle.iox2sd_config.specs.Writing.{IsPath, IsFileName, bytes_of, HasPaths, HasNames};
-ghost use Rattle.iox2sd_config.specs.Writing.{HasServiceNames, HasNodeNames, service_of, node_of};
-ghost use Rattle.iox2sd_config.specs.Writing.{system_of, ReadsSystem, ReadsDefaults, ReadsConfig};
+ghost use Rattle.iox2sd_config.specs.Writing.{HasServiceNames, HasNodeNames, with_paths};
+ghost use Rattle.iox2sd_config.specs.Writing.{with_names, with_service_names, with_node_names};
+ghost use Rattle.iox2sd_config.specs.Writing.{ReadsSystem, ReadsDefaults, ReadsConfig};
 ghost use Rattle.iox2sd_config.specs.Writing.{written_answer, keyed_answer, unfit_answer};
-ghost use Rattle.iox2sd_config.specs.Writing.{ReportsText};
 ghost use Rattle.iox2sd_config.specs.Writing.{bad_status, bad_view, bad_path, bad_name, IsFirstBad};
 ghost use Rattle.iox2sd_config.specs.Writing.{paths_of, service_names_of, node_names_of};
-ghost use Rattle.iox2sd_config.specs.Writing.{IsFirstBadName};
-ghost use Rattle.iox2sd_config.specs.Writing.{WritesConfig};
+ghost use Rattle.iox2sd_config.specs.Writing.{IsFirstBadName, ReportsText, WritesConfig};
 
 use crate::config::{PlainConfig, PlainText, PlainTexts};
 use crate::fault::{cut, key_path};
@@ -20,10 +19,8 @@ use iox2sd_common::given_or_return;
 use iox2sd_common::read_settings::{
     Field, read_blackboard, read_event, read_global, read_publish_subscribe, read_request_response,
 };
-use iox2sd_common::settings::GlobalSettings;
 use iox2sd_common::status::Status;
 use std::alloc;
-use std::time::Duration;
 
 /// What writing settings gave.
 #[repr(C)]
@@ -147,15 +144,16 @@ fn bad_status(text: &PlainText, otherwise: Status) -> Status
     }
 }
 
-/// Nothing where a text is a path, or why it is refused.
+/// The path that a text is, or why it is refused.
 #[tactic(auto, unfolding(crate::specs::Writing::IsPath))]
-fn check_path(text: &PlainText, key: &'static str) -> Result<(), BadText>
-    ensures ok { IfOk result (λ _. IsPath (bytes_of text.now)) }
+fn read_path(text: &PlainText, key: &'static str) -> Result<Path, BadText>
+    ensures ok { IfOk result (λ path. IsPath (bytes_of text.now)) }
+    ensures made { IfOk result (λ path. path ≡ bytes_of text.now) }
     ensures err { IfErr result (λ bad. ¬ (IsPath (bytes_of text.now))) }
     ensures reported { IfErr result (λ bad. bad_view bad ≡ bad_path (key.now, bytes_of text.now)) }
 {
     match Path::new(bytes_of(text)) {
-        Ok(_) => Ok(()),
+        Ok(path) => Ok(path),
         Err(_) => Err(BadText {
             status: bad_status(text, Status::BadPath),
             key,
@@ -163,15 +161,16 @@ fn check_path(text: &PlainText, key: &'static str) -> Result<(), BadText>
     }
 }
 
-/// Nothing where a text is the name of a file, or why it is refused.
+/// The name of a file that a text is, or why it is refused.
 #[tactic(auto, unfolding(crate::specs::Writing::IsFileName))]
-fn check_name(text: &PlainText, key: &'static str) -> Result<(), BadText>
-    ensures ok { IfOk result (λ _. IsFileName (bytes_of text.now)) }
+fn read_name(text: &PlainText, key: &'static str) -> Result<FileName, BadText>
+    ensures ok { IfOk result (λ name. IsFileName (bytes_of text.now)) }
+    ensures made { IfOk result (λ name. name ≡ bytes_of text.now) }
     ensures err { IfErr result (λ bad. ¬ (IsFileName (bytes_of text.now))) }
     ensures reported { IfErr result (λ bad. bad_view bad ≡ bad_name (key.now, bytes_of text.now)) }
 {
     match FileName::new(bytes_of(text)) {
-        Ok(_) => Ok(()),
+        Ok(name) => Ok(name),
         Err(_) => Err(BadText {
             status: bad_status(text, Status::NoFileName),
             key,
@@ -179,163 +178,108 @@ fn check_name(text: &PlainText, key: &'static str) -> Result<(), BadText>
     }
 }
 
-/// The paths are paths, or this is the first that is none.
+/// Sets the paths of a system's settings, or returns the first text that is none.
 #[tactic(auto, using(crate::proofs::Texts::refused_texts))]
-fn check_paths(texts: &PlainTexts) -> Result<(), BadText>
-    ensures ok { IfOk result (λ _. HasPaths texts.now) }
+fn read_paths(texts: &PlainTexts, global: &mut Global) -> Result<(), BadText>
+    ensures ok { OnOk result (HasPaths texts.now) }
+    ensures made { OnOk result (global.new ≡ with_paths texts.now global.old) }
     ensures err { IfErr result (λ bad.
         IsFirstBad IsPath bad_path (paths_of texts.now) (bad_view bad)) }
 {
-    check_path(&texts.root_path, "global.root-path")?;
-    check_path(&texts.service_directory, "global.service.directory")?;
-    check_path(&texts.node_directory, "global.node.directory")
+    global.set_root_path(&read_path(&texts.root_path, "global.root-path")?);
+    global.service.directory = read_path(&texts.service_directory, "global.service.directory")?;
+    global.node.directory = read_path(&texts.node_directory, "global.node.directory")?;
+    Ok(())
 }
 
-/// The ends of the names of services' files are names of files, or this is the first that is none.
+/// Sets what the names of services' files end with, or returns the first text that is none.
 #[tactic(auto, using(crate::proofs::Texts::refused_texts))]
-fn check_service_names(texts: &PlainTexts) -> Result<(), BadText>
-    ensures ok { IfOk result (λ _. HasServiceNames texts.now) }
+fn read_service_names(texts: &PlainTexts, service: &mut Service) -> Result<(), BadText>
+    ensures ok { OnOk result (HasServiceNames texts.now) }
+    ensures made { OnOk result (service.new ≡ with_service_names texts.now service.old) }
     ensures err { IfErr result (λ bad.
         IsFirstBad IsFileName bad_name (service_names_of texts.now) (bad_view bad)) }
 {
-    check_name(
+    service.data_segment_suffix = read_name(
         &texts.data_segment_suffix,
         "global.service.data-segment-suffix",
     )?;
-    check_name(
+    service.static_config_storage_suffix = read_name(
         &texts.static_config_storage_suffix,
         "global.service.static-config-storage-suffix",
     )?;
-    check_name(
+    service.dynamic_config_storage_suffix = read_name(
         &texts.dynamic_config_storage_suffix,
         "global.service.dynamic-config-storage-suffix",
     )?;
-    check_name(&texts.connection_suffix, "global.service.connection-suffix")?;
-    check_name(
+    service.connection_suffix = read_name(
+        &texts.connection_suffix,
+        "global.service.connection-suffix",
+    )?;
+    service.event_connection_suffix = read_name(
         &texts.event_connection_suffix,
         "global.service.event-connection-suffix",
     )?;
-    check_name(
+    service.blackboard_mgmt_suffix = read_name(
         &texts.blackboard_mgmt_suffix,
         "global.service.blackboard-mgmt-suffix",
     )?;
-    check_name(
+    service.blackboard_data_suffix = read_name(
         &texts.blackboard_data_suffix,
         "global.service.blackboard-data-suffix",
-    )
+    )?;
+    Ok(())
 }
 
-/// The ends of the names of nodes' files are names of files, or this is the first that is none.
+/// Sets what the names of nodes' files end with, or returns the first text that is none.
 #[tactic(auto, using(crate::proofs::Texts::refused_texts))]
-fn check_node_names(texts: &PlainTexts) -> Result<(), BadText>
-    ensures ok { IfOk result (λ _. HasNodeNames texts.now) }
+fn read_node_names(texts: &PlainTexts, node: &mut Node) -> Result<(), BadText>
+    ensures ok { OnOk result (HasNodeNames texts.now) }
+    ensures made { OnOk result (node.new ≡ with_node_names texts.now node.old) }
     ensures err { IfErr result (λ bad.
         IsFirstBad IsFileName bad_name (node_names_of texts.now) (bad_view bad)) }
 {
-    check_name(&texts.monitor_suffix, "global.node.monitor-suffix")?;
-    check_name(
+    node.monitor_suffix = read_name(&texts.monitor_suffix, "global.node.monitor-suffix")?;
+    node.static_config_suffix = read_name(
         &texts.node_static_config_suffix,
         "global.node.static-config-suffix",
     )?;
-    check_name(&texts.service_tag_suffix, "global.node.service-tag-suffix")?;
-    check_name(&texts.port_tag_suffix, "global.node.port-tag-suffix")?;
-    check_name(&texts.global_mgmt_suffix, "global.node.global-mgmt-suffix")
+    node.service_tag_suffix = read_name(
+        &texts.service_tag_suffix,
+        "global.node.service-tag-suffix",
+    )?;
+    node.port_tag_suffix = read_name(&texts.port_tag_suffix, "global.node.port-tag-suffix")?;
+    node.global_mgmt_suffix = read_name(
+        &texts.global_mgmt_suffix,
+        "global.node.global-mgmt-suffix",
+    )?;
+    Ok(())
 }
 
-/// What the names of files begin and end with are names of files, or this is the first that is not.
-fn check_names(texts: &PlainTexts) -> Result<(), BadText>
-    ensures ok { IfOk result (λ _. HasNames texts.now) }
+/// Sets the names of a system's settings, or returns the first text that is none.
+fn read_names(texts: &PlainTexts, global: &mut Global) -> Result<(), BadText>
+    ensures ok { OnOk result (HasNames texts.now) }
+    ensures made { OnOk result (global.new ≡ with_names texts.now global.old) }
     ensures err { IfErr result (λ bad. IsFirstBadName texts.now (bad_view bad)) }
 {
-    check_name(&texts.prefix, "global.prefix")?;
-    check_service_names(texts)?;
-    check_node_names(texts)
+    global.prefix = read_name(&texts.prefix, "global.prefix")?;
+    read_service_names(texts, &mut global.service)?;
+    read_node_names(texts, &mut global.node)
 }
 
-/// The path that a text is.
-#[tactic(auto, unfolding(crate::specs::Writing::IsPath))]
-fn path_of(text: &PlainText) -> Path
-    requires { IsPath (bytes_of text.now) }
-    ensures { result ≡ bytes_of text.now }
+/// Sets the settings of a system, or returns what is not valid in them.
+fn read_system(given: &PlainConfig, global: &mut Global) -> Result<(), Unfit>
+    ensures ok { OnOk result (ReadsSystem given.now (Ok global.new)) }
+    ensures err { IfErr result (λ unfit. ReadsSystem given.now (Err unfit)) }
 {
-    match Path::new(bytes_of(text)) {
-        Ok(path) => path,
-        Err(_) => unreachable!(),
-    }
-}
-
-/// The name of a file that a text is.
-#[tactic(auto, unfolding(crate::specs::Writing::IsFileName))]
-fn name_of(text: &PlainText) -> FileName
-    requires { IsFileName (bytes_of text.now) }
-    ensures { result ≡ bytes_of text.now }
-{
-    match FileName::new(bytes_of(text)) {
-        Ok(name) => name,
-        Err(_) => unreachable!(),
-    }
-}
-
-/// The settings of services' files.
-fn service_of(texts: &PlainTexts, cleanup_dead_nodes_on_open: bool) -> Service
-    requires paths { HasPaths texts.now }
-    requires names { HasServiceNames texts.now }
-    ensures { result ≡ service_of texts.now cleanup_dead_nodes_on_open }
-{
-    Service {
-        directory: path_of(&texts.service_directory),
-        data_segment_suffix: name_of(&texts.data_segment_suffix),
-        static_config_storage_suffix: name_of(&texts.static_config_storage_suffix),
-        dynamic_config_storage_suffix: name_of(&texts.dynamic_config_storage_suffix),
-        connection_suffix: name_of(&texts.connection_suffix),
-        event_connection_suffix: name_of(&texts.event_connection_suffix),
-        blackboard_mgmt_suffix: name_of(&texts.blackboard_mgmt_suffix),
-        blackboard_data_suffix: name_of(&texts.blackboard_data_suffix),
-        cleanup_dead_nodes_on_open,
-    }
-}
-
-/// The settings of nodes' files.
-fn node_of(texts: &PlainTexts, settings: &GlobalSettings) -> Node
-    requires paths { HasPaths texts.now }
-    requires names { HasNodeNames texts.now }
-    ensures { result ≡ node_of texts.now settings.now }
-{
-    Node {
-        directory: path_of(&texts.node_directory),
-        monitor_suffix: name_of(&texts.monitor_suffix),
-        static_config_suffix: name_of(&texts.node_static_config_suffix),
-        service_tag_suffix: name_of(&texts.service_tag_suffix),
-        port_tag_suffix: name_of(&texts.port_tag_suffix),
-        global_mgmt_suffix: name_of(&texts.global_mgmt_suffix),
-        cleanup_dead_nodes_on_creation: settings.cleanup_dead_nodes_on_creation,
-        cleanup_dead_nodes_on_destruction: settings.cleanup_dead_nodes_on_destruction,
-    }
-}
-
-/// The settings of a system.
-fn system_of(texts: &PlainTexts, settings: &GlobalSettings, timeout: Duration) -> Global
-    requires paths { HasPaths texts.now }
-    requires names { HasNames texts.now }
-    ensures { result ≡ system_of texts.now settings.now timeout }
-{
-    let mut global = Global::default();
-    global.set_root_path(&path_of(&texts.root_path));
-    global.prefix = name_of(&texts.prefix);
-    global.service = service_of(texts, settings.cleanup_dead_nodes_on_open);
-    global.node = node_of(texts, settings);
-    global.creation_timeout = timeout;
-    global
-}
-
-/// The settings of a system, or what is not valid in them.
-fn read_system(given: &PlainConfig) -> Result<Global, Unfit>
-    ensures { ReadsSystem given.now result }
-{
-    check_paths(&given.texts)?;
-    check_names(&given.texts)?;
-    let timeout = read_global(&given.global)?;
-    Ok(system_of(&given.texts, &given.global, timeout))
+    read_paths(&given.texts, global)?;
+    read_names(&given.texts, global)?;
+    let settings = &given.global;
+    global.creation_timeout = read_global(settings)?;
+    global.service.cleanup_dead_nodes_on_open = settings.cleanup_dead_nodes_on_open;
+    global.node.cleanup_dead_nodes_on_creation = settings.cleanup_dead_nodes_on_creation;
+    global.node.cleanup_dead_nodes_on_destruction = settings.cleanup_dead_nodes_on_destruction;
+    Ok(())
 }
 
 /// The settings of services, or the first field that is not valid.
@@ -354,10 +298,10 @@ fn read_defaults(given: &PlainConfig) -> Result<Defaults, Field>
 fn read_given(given: &PlainConfig) -> Result<Config, Unfit>
     ensures { ReadsConfig given.now result }
 {
-    Ok(Config {
-        global: read_system(given)?,
-        defaults: read_defaults(given)?,
-    })
+    let mut config = Config::default();
+    read_system(given, &mut config.global)?;
+    config.defaults = read_defaults(given)?;
+    Ok(config)
 }
 
 /// Writes the text of settings to the front of the buffer, where it fits.

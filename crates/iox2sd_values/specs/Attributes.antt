@@ -1,17 +1,21 @@
 -- A caller's arrays of keys and values, and what a caller requires of a set of attributes.
 use Rattle.std.specs.Prelude.{◌≡◌, ℕ, ◌+◌, ◌≤◌, List, Some, Result, Ok, Err, map, take, length, slice_get, All, IsPermutation, IsSorted}
 use Rattle.std.specs.Option.{ok_or}
-use Rattle.iox2sd_values.specs.Prelude.{Attribute, CountAnswer, IsName, Key, MakesName, PlaceAnswer, Status, TextAnswer}
+use Rattle.iox2sd_values.specs.Prelude.{Attribute, CountAnswer, IsName, Key, MakesName, PlaceAnswer, TextAnswer}
 use Rattle.iox2_texts.specs.Attribute.{IsListing, values_of}
 use Rattle.iox2_texts.specs.Pair.{Pair, pair_cmp}
 use Rattle.iox2_texts.specs.Verify.{IsFirst}
 use Rattle.iox2_texts.specs.VerifyErrors.{Verifies}
 use Rattle.iox2_texts.specs.declared.attribute.verifier.AttributeVerificationError.{AttributeVerificationError}
 use Rattle.iox2_texts.specs.declared.attribute.verifier.AttributeVerificationError.TheVariants.{NonExistingKey, IncompatibleAttribute}
-use Rattle.iox2sd_common.specs.Answers.{count_answer, place_answer, Reading, ReportsText, Returns}
+use Rattle.iox2sd_common.specs.Answers.{count_answer, place_answer, Reading, Returns}
 use Rattle.iox2sd_common.specs.declared.status.Status.TheVariants as status
 use Rattle.iox2sd_values.specs.declared.attributes.Fault.{Fault}
 use Rattle.iox2sd_values.specs.declared.attributes.Fault.TheVariants as fault
+use Rattle.iox2sd_values.specs.Refusals.{IsCause, MakesOr, ReportsMade, refused_count, refused_place}
+use Rattle.iox2sd_values.specs.Texts.{ChecksName}
+use Rattle.iox2sd_values.specs.declared.refusals.Refusal.{Refusal}
+use Rattle.iox2sd_values.specs.declared.refusals.Refusal.TheVariants as refusal
 
 -- the pair, and the key, as the layer has it
 abbrev pub pair_of : Attribute → Pair
@@ -26,8 +30,9 @@ IsLegal a = IsName 64 a.key.now × IsName 256 a.value.now
 
 -- the pair at this place has the fault, or there are sixteen before it
 abbrev pub HasFault : Fault → ℕ → Attribute → Type 0
-HasFault fault.Key i a = ¬ (IsName 64 a.key.now)
-HasFault fault.Value i a = IsName 64 a.key.now × (¬ (IsName 256 a.value.now))
+HasFault (fault.Key cause) i a = (¬ (IsName 64 a.key.now)) × IsCause (ChecksName 64 a.key.now) cause
+HasFault (fault.Value cause) i a =
+    IsName 64 a.key.now × (¬ (IsName 256 a.value.now)) × IsCause (ChecksName 256 a.value.now) cause
 HasFault fault.Number i a = IsLegal a × (i ≡ 16)
 
 -- each element before the place passes, and the one at it fails
@@ -40,21 +45,21 @@ abbrev pub ChecksPairs : List Attribute → Result (Unit {0}) (Fault × ℕ) →
 ChecksPairs pairs (Ok _) = All IsLegal pairs × (length pairs ≤ 16)
 ChecksPairs pairs (Err (fault, at)) = (at ≤ 16) × FailsAt IsLegal (HasFault fault at) pairs at
 
--- the status that reports the fault of a pair of a set, and of a required pair
-abbrev pub set_fault : Fault → Status
-set_fault fault.Key = status.BadKey
-set_fault fault.Value = status.BadValue
-set_fault fault.Number = status.TooMany
+-- why a pair of a set is refused for its fault, and why a required pair is
+abbrev pub set_refusal : Fault → Refusal
+set_refusal (fault.Key cause) = refusal.OfText status.BadKey cause
+set_refusal (fault.Value cause) = refusal.OfText status.BadValue cause
+set_refusal fault.Number = refusal.Because status.TooMany
 
-abbrev pub required_fault : Fault → Status
-required_fault fault.Key = status.BadRequiredKey
-required_fault fault.Value = status.BadRequiredValue
-required_fault fault.Number = status.TooManyRequired
+abbrev pub required_refusal : Fault → Refusal
+required_refusal (fault.Key cause) = refusal.OfText status.BadRequiredKey cause
+required_refusal (fault.Value cause) = refusal.OfText status.BadRequiredValue cause
+required_refusal fault.Number = refusal.Because status.TooManyRequired
 
 -- the answer on pairs that are a set, or on the first that is wrong
 abbrev pub set_answer : Result (Unit {0}) (Fault × ℕ) → PlaceAnswer
 set_answer (Ok _) = place_answer status.Done 0
-set_answer (Err (fault, at)) = place_answer (set_fault fault) at
+set_answer (Err (fault, at)) = refused_place (set_refusal fault) at
 
 -- the answer reports whether the pairs are a set
 abbrev pub ReportsSet : List Attribute → PlaceAnswer → Type 0
@@ -75,39 +80,46 @@ SortsSet old answer new =
 abbrev pub OfSet : List Attribute → (List Pair → Type 0) → Type 0
 OfSet pairs Says = (set : List Pair) → IsListing (map pair_of pairs) set → Says set
 
--- how many values the key has in the set of the pairs: the pairs are looked at first
+-- the key whose values are searched for, or why none are: the pairs are looked at first
+abbrev pub ReadsAsked : List Attribute → List ℕ → Result (List ℕ) Refusal → Type 0
+ReadsAsked pairs key made =
+    Reading (ChecksPairs pairs) (λ wrong. made ≡ Err (set_refusal wrong.0)) (λ _.
+    MakesOr (MakesName 64 key) (ChecksName 64 key) status.BadAskedKey made)
+
+-- how many values the key has in the set of the pairs
 abbrev pub CountsValues : List Attribute → List ℕ → CountAnswer → Type 0
 CountsValues pairs key answer =
-    Reading (ChecksPairs pairs) (λ wrong. answer ≡ count_answer (set_fault wrong.0) 0) (λ _.
-    Reading (MakesName 64 key) (λ _. answer ≡ count_answer status.BadAskedKey 0) (λ name.
-    OfSet pairs (λ set. answer ≡ count_answer status.Done (length (values_of set name)))))
+    Reading (ReadsAsked pairs key) (λ r. answer ≡ refused_count r) (λ name.
+    OfSet pairs (λ set. answer ≡ count_answer status.Done (length (values_of set name))))
 
--- the value at the index of those that the key has in the set is written, if there is one
+-- the value at the index of those that the key has in the set, if there is one
+abbrev pub value_at : List Pair → List ℕ → ℕ → Result (List ℕ) Refusal
+value_at set key index =
+    ok_or (slice_get (values_of set key) index) (refusal.Because status.NoSuchValue)
+
+-- the same is written
 abbrev pub ReportsValue : List Attribute → List ℕ → ℕ → List ℕ → TextAnswer → List ℕ → Type 0
 ReportsValue pairs key index old answer new =
-    Reading (ChecksPairs pairs) (λ wrong. ReportsText (Err (set_fault wrong.0)) old answer new) (λ
-    _.
-    Reading (MakesName 64 key) (λ _. ReportsText (Err status.BadAskedKey) old answer new) (λ name.
-    OfSet pairs (λ set. ReportsText (ok_or (slice_get (values_of set name) index)
-    status.NoSuchValue)
-    old answer new)))
+    Reading (ReadsAsked pairs key) (λ r. ReportsMade (Err r) old answer new) (λ name.
+    OfSet pairs (λ set. ReportsMade (value_at set name index) old answer new))
 
 -- the key is legal
 abbrev pub HasText : Key → Type 0
 HasText k = IsName 64 (text_of k)
 
--- the required key has the fault of this status, where so many pairs and keys are before it
-abbrev pub HasKeyFault : Status → ℕ → Key → Type 0
-HasKeyFault status.BadAskedKey before k = ¬ (HasText k)
-HasKeyFault status.TooManyRequired before k = HasText k × (before ≡ 16)
+-- the required key is refused so, where so many pairs and keys are before it
+abbrev pub HasKeyFault : Refusal → ℕ → Key → Type 0
+HasKeyFault (refusal.OfText status.BadAskedKey cause) before k =
+    (¬ (HasText k)) × IsCause (ChecksName 64 (text_of k)) cause
+HasKeyFault (refusal.Because status.TooManyRequired) before k = HasText k × (before ≡ 16)
 HasKeyFault _ before k = ⊥
 
--- the keys are legal and at most sixteen with so many pairs, or the first that is not has the fault
--- of the status at its place
-abbrev pub ChecksKeys : ℕ → List Key → Result (Unit {0}) (Status × ℕ) → Type 0
+-- the keys are legal and at most sixteen with so many pairs, or the first that is not is refused so
+-- at its place
+abbrev pub ChecksKeys : ℕ → List Key → Result (Unit {0}) (Refusal × ℕ) → Type 0
 ChecksKeys pairs keys (Ok _) = All HasText keys × (pairs + length keys ≤ 16)
-ChecksKeys pairs keys (Err (s, at)) =
-    (pairs + at ≤ 16) × FailsAt HasText (HasKeyFault s (pairs + at)) keys at
+ChecksKeys pairs keys (Err (r, at)) =
+    (pairs + at ≤ 16) × FailsAt HasText (HasKeyFault r (pairs + at)) keys at
 
 -- the answer on a verdict: of what the set lacks, the first place in the caller's array
 abbrev pub ReportsVerdict : Result (Unit {0}) AttributeVerificationError → List Attribute → List Key
@@ -135,9 +147,10 @@ Judges pairs required keys answer =
 -- looked at first, then those that are required, and then the keys
 abbrev pub VerifiesSet : List Attribute → List Attribute → List Key → PlaceAnswer → Type 0
 VerifiesSet pairs required keys answer =
-    Reading (ChecksPairs pairs) (λ wrong. answer ≡ place_answer (set_fault wrong.0) wrong.1) (λ _.
+    Reading (ChecksPairs pairs)
+    (λ wrong. answer ≡ refused_place (set_refusal wrong.0) wrong.1) (λ _.
     Reading (ChecksPairs required)
-    (λ wrong. answer ≡ place_answer (required_fault wrong.0) wrong.1) (λ _.
+    (λ wrong. answer ≡ refused_place (required_refusal wrong.0) wrong.1) (λ _.
     Reading (ChecksKeys (length required) keys)
-    (λ wrong. answer ≡ place_answer wrong.0 wrong.1) (λ _.
+    (λ wrong. answer ≡ refused_place wrong.0 wrong.1) (λ _.
     Judges pairs required keys answer)))

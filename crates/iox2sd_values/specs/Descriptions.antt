@@ -2,7 +2,7 @@
 use Rattle.std.specs.Prelude.{◌≡◌, ◌↔◌, ℕ, IsTrue, Option, Some, None, Err, length, Bool, List, [], ◌∷◌, Result, Ok}
 use Rattle.iox2_static.specs.declared.static_config.publish_subscribe.StaticConfig.{StaticConfig as PublishSubscribe}
 use Rattle.iox2_static.specs.declared.static_config.request_response.StaticConfig.{StaticConfig as RequestResponse}
-use Rattle.iox2sd_values.specs.Prelude.{BlackboardConfig, BlackboardSettings, EventConfig, EventSettings, Field, FieldAnswer, IllegalText, PatternKind, PublishSubscribeConfig, PublishSubscribeSettings, ReadsBlackboard, ReadsEvent, ReadsPattern, ReadsPublishSubscribe, ReadsRequestResponse, RequestResponseConfig, RequestResponseSettings, Status, blackboard_of, code, duration_of, event_of, field_answer, no_field, pattern_number, sha1_text}
+use Rattle.iox2sd_values.specs.Prelude.{BlackboardConfig, BlackboardSettings, EventConfig, EventSettings, Field, FieldAnswer, IllegalText, PatternKind, PublishSubscribeConfig, PublishSubscribeSettings, ReadsBlackboard, ReadsEvent, ReadsPattern, ReadsPublishSubscribe, ReadsRequestResponse, RequestResponseConfig, RequestResponseSettings, blackboard_of, code, duration_of, event_of, field_answer, no_field, pattern_number, sha1_text}
 use Rattle.iox2_static.specs.Description.{Description, Describes}
 use Rattle.iox2_static.specs.MessagingPattern.{kind_of}
 use Rattle.iox2_static.specs.declared.static_config.messaging_pattern.MessagingPattern.{MessagingPattern}
@@ -20,6 +20,8 @@ use Rattle.iox2_static.specs.RequestResponse.{request_response_of}
 use Rattle.iox2sd_common.specs.Ids.{number_of}
 use Rattle.iox2sd_values.specs.Chunks.{publish_subscribe, request_response}
 use Rattle.iox2sd_values.specs.Names.{ReadsAnyName}
+use Rattle.iox2sd_values.specs.Refusals.{refused_field}
+use Rattle.iox2sd_values.specs.declared.refusals.Refusal.{Refusal}
 
 -- what is fixed of a publish-subscribe service, beside the types of its messages
 abbrev pub c_publish_subscribe : PublishSubscribe → PublishSubscribeConfig
@@ -126,9 +128,9 @@ DescribesBySha1 name id p made = Describes sha1_text (λ input. ⊥) name id p m
 
 -- the description of a service with this name and this pattern, as C sees it: the name is looked at
 -- first, then the pattern, and then the hash text
-abbrev pub DescribesAs : Result (List ℕ) Status → Result MessagingPattern Field → Id
+abbrev pub DescribesAs : Result (List ℕ) Refusal → Result MessagingPattern Field → Id
     → Result ServiceDescription FieldAnswer → Type 0
-DescribesAs (Err cause) read id made = made ≡ Err (no_field cause)
+DescribesAs (Err refusal) read id made = made ≡ Err (refused_field refusal)
 DescribesAs (Ok name) (Err field) id made = made ≡ Err (field_answer field)
 DescribesAs (Ok name) (Ok p) id (Ok made) =
     (d : Description) × DescribesBySha1 name (number_of id) p (Ok d) × (made ≡ c_description d id)
@@ -149,7 +151,7 @@ Fills (position ∷ rest) (Err why) answer new = (answer ≡ why) × (new ≡ po
 abbrev pub FillsOf : Result MessagingPattern Field → Bool → List ℕ → Id → List ServiceDescription
     → FieldAnswer → List ServiceDescription → Type 0
 FillsOf read internal bytes id old answer new =
-    (name : Result (List ℕ) Status) × ReadsAnyName internal bytes name
+    (name : Result (List ℕ) Refusal) × ReadsAnyName internal bytes name
     × (made : Result ServiceDescription FieldAnswer) × DescribesAs name read id made
     × Fills old made answer new
 
@@ -168,17 +170,19 @@ ReadsAs {A} Reads make (Ok made) = (settings : A) × Reads (Ok settings) × (mad
 ReadsAs Reads make (Err f) = Reads (Err f)
 
 -- of settings of each pattern
-abbrev pub MakesPublishSubscribe : PublishSubscribeSettings → Result MessagingPattern Field → Type 0
+unfoldable pub MakesPublishSubscribe : PublishSubscribeSettings → Result MessagingPattern Field
+    → Type 0
 MakesPublishSubscribe s made =
     ReadsAs (ReadsPublishSubscribe s) (λ c. pattern.PublishSubscribe (publish_subscribe_of c)) made
 
-abbrev pub MakesEvent : EventSettings → Result MessagingPattern Field → Type 0
+unfoldable pub MakesEvent : EventSettings → Result MessagingPattern Field → Type 0
 MakesEvent s made = ReadsAs (ReadsEvent s) (λ c. pattern.Event (event_of c)) made
 
-abbrev pub MakesRequestResponse : RequestResponseSettings → Result MessagingPattern Field → Type 0
+unfoldable pub MakesRequestResponse : RequestResponseSettings → Result MessagingPattern Field
+    → Type 0
 MakesRequestResponse s made =
     ReadsAs (ReadsRequestResponse s) (λ c. pattern.RequestResponse (request_response_of c)) made
 
-abbrev pub MakesBlackboard : BlackboardSettings → Result MessagingPattern Field → Type 0
+unfoldable pub MakesBlackboard : BlackboardSettings → Result MessagingPattern Field → Type 0
 MakesBlackboard s made =
     ReadsAs (ReadsBlackboard s) (λ c. pattern.Blackboard (blackboard_of c)) made

@@ -5,10 +5,10 @@ pub mod Descriptions
 pub mod Messages
 pub mod Names
 pub mod Paths
+pub mod Refusals
 pub mod Satisfies
 pub mod Settings
 pub mod Texts
-pub mod Causes
 pub mod Laws
 -- Inner facts: the names that these files share.
 pub mod Prelude

@@ -71,23 +71,18 @@ abbrev pub ChecksPart : List Part → ℕ → Type 0
 ChecksPart parts answer =
     OfGiven (code status.Null) (λ part. Returns end_code (ReadsPart part)) parts answer
 
--- the parts before the one that is wrong are types
-abbrev pub FailsIn : Details → Which → Status → Type 0
-FailsIn d which.Header cause = ReadsPart d.header (Err cause)
-FailsIn d which.UserHeader cause =
-    (header : TypeDetailParts) × ReadsPart d.header (Ok header)
-    × ReadsPart d.user_header (Err cause)
-FailsIn d which.Payload cause =
-    (header user_header : TypeDetailParts) × ReadsPart d.header (Ok header)
-    × ReadsPart d.user_header (Ok user_header)
-    × ReadsPart d.payload (Err cause)
+-- the same of this part of a message
+abbrev pub ReadsPartOf : Part → Which → Result TypeDetailParts Fault → Type 0
+ReadsPartOf part which (Ok made) = ReadsPart part (Ok made)
+ReadsPartOf part which (Err fault) = (fault.part ≡ which) × ReadsPart part (Err fault.status)
 
 -- the types of all parts, or what is wrong with the first invalid one
 abbrev pub ReadsDetails : Details → Result MessageTypeDetails Fault → Type 0
-ReadsDetails d (Ok made) =
-    ReadsPart d.header (Ok made.header) × ReadsPart d.user_header (Ok made.user_header)
-    × ReadsPart d.payload (Ok made.payload)
-ReadsDetails d (Err fault) = FailsIn d fault.part fault.status
+ReadsDetails d made =
+    Reading (ReadsPartOf d.header which.Header) (λ f. made ≡ Err f) (λ header.
+    Reading (ReadsPartOf d.user_header which.UserHeader) (λ f. made ≡ Err f) (λ user_header.
+    Reading (ReadsPartOf d.payload which.Payload) (λ f. made ≡ Err f) (λ payload.
+    made ≡ Ok (message header user_header payload))))
 
 -- a part without its name and its variant
 abbrev pub shape : Part → TypeDetailParts

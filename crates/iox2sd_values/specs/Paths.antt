@@ -3,34 +3,30 @@
 use Rattle.std.specs.Prelude.{◌≡◌, ℕ, List, [], ◌∷◌, Result, Ok, Err, slice_get}
 use Rattle.std.specs.Option.{ok_or}
 use lib.Chars.{codes}
-use Rattle.iox2sd_values.specs.Prelude.{MakesJoined, SemanticStringError, Status, TextAnswer, default_node, default_service}
-use Rattle.iox2sd_common.specs.Answers.{ReportsText}
-use Rattle.iox2sd_values.specs.Texts.{MakesPath}
+use Rattle.iox2sd_values.specs.Prelude.{MakesJoined, PlaceAnswer, SemanticStringError, TextAnswer, default_node, default_service}
+use Rattle.iox2sd_common.specs.Answers.{Reading, ReportsText}
+use Rattle.iox2sd_values.specs.Refusals.{MakesOr}
+use Rattle.iox2sd_values.specs.Texts.{ChecksFileName, ChecksPath, MakesFileName, MakesPath}
+use Rattle.iox2sd_values.specs.declared.refusals.Refusal.{Refusal}
+use Rattle.iox2sd_values.specs.declared.refusals.Refusal.TheVariants as refusal
 use Rattle.iox2sd_common.specs.declared.status.Status.TheVariants as status
 
--- what joining to a path answers: the path is looked at first, then the entry, and then the length
-abbrev pub Joins : (List ℕ → Result (List ℕ) SemanticStringError → Type 0) → List ℕ → List ℕ
-    → Result (List ℕ) Status → Type 0
-Joins Makes path entry (Ok joined) =
-    (p e : List ℕ) × MakesPath path (Ok p) × Makes entry (Ok e) × MakesJoined p e (Ok joined)
-Joins Makes path entry (Err status.BadPath) = (error : SemanticStringError)
-    × MakesPath path (Err error)
-Joins Makes path entry (Err status.BadEntry) =
-    (p : List ℕ) × MakesPath path (Ok p) × (error : SemanticStringError) × Makes entry (Err error)
-Joins Makes path entry (Err status.TooLong) =
-    (p e : List ℕ) × MakesPath path (Ok p) × Makes entry (Ok e) × (error : SemanticStringError)
-    × MakesJoined p e (Err error)
-Joins Makes path entry (Err _) = ⊥
+-- the entry that is made and checked so, joined to the path: the path is looked at first, then the
+-- entry, and then the length
+abbrev pub Joins : (List ℕ → Result (List ℕ) SemanticStringError → Type 0)
+    → (List ℕ → PlaceAnswer → Type 0) → List ℕ → List ℕ → Result (List ℕ) Refusal → Type 0
+Joins Makes Checks path entry made =
+    Reading (MakesOr (MakesPath path) (ChecksPath path) status.BadPath) (λ r. made ≡ Err r) (λ p.
+    Reading (MakesOr (Makes entry) (Checks entry) status.BadEntry) (λ r. made ≡ Err r) (λ e.
+    Reading (MakesJoined p e) (λ error. made ≡ Err (refusal.Because status.TooLong)) (λ joined.
+    made ≡ Ok joined)))
 
--- an entry that is legal as it is
-abbrev pub IsLegal : List ℕ → Result (List ℕ) SemanticStringError → Type 0
-IsLegal entry read = read ≡ Ok entry
+-- a path joined to a path, and the path of a file in a directory
+abbrev pub JoinsPath : List ℕ → List ℕ → Result (List ℕ) Refusal → Type 0
+JoinsPath path entry made = Joins MakesPath ChecksPath path entry made
 
--- the joined path is written, or the answer reports why there is none
-abbrev pub ReportsJoined : (List ℕ → Result (List ℕ) SemanticStringError → Type 0) → List ℕ → List ℕ
-    → List ℕ → TextAnswer → List ℕ → Type 0
-ReportsJoined Makes path entry old answer new =
-    (made : Result (List ℕ) Status) × Joins Makes path entry made × ReportsText made old answer new
+abbrev pub JoinsFile : List ℕ → List ℕ → Result (List ℕ) Refusal → Type 0
+JoinsFile path file made = Joins MakesFileName ChecksFileName path file made
 
 -- the texts of the configuration by their numbers, from 0 on
 abbrev pub named : List (List ℕ)

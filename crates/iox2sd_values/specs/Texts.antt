@@ -1,5 +1,5 @@
 -- Whether texts are names, keys, values and paths, and which byte is wrong.
-use Rattle.std.specs.Prelude.{◌≡◌, ◌≢◌, ℕ, List, [], Option, Some, None, Result, Ok, Err, IsTrue, MatchBool, nat_eq, ⊤, ◌⊎◌}
+use Rattle.std.specs.Prelude.{◌≡◌, ◌≢◌, ℕ, Bool, false, true, List, [], Option, Some, None, Result, Ok, Err, IsTrue, MatchBool, nat_eq, ⊤, ◌⊎◌}
 use Rattle.std.specs.List.{starts_with}
 use lib.Chars.{codes}
 use Rattle.iox2sd_values.specs.Prelude.{EndsPlain, IsAllowed, IsPlain, IsRestricted, MakesLegal, MakesName, PlaceAnswer, SemanticStringError, is_restricted}
@@ -11,18 +11,12 @@ use Rattle.iox2sd_common.specs.declared.status.Status.TheVariants as status
 use Rattle.iox2sd_values.specs.declared.texts.Alphabet.{Alphabet}
 use Rattle.iox2sd_values.specs.declared.texts.Alphabet.TheVariants as alphabet
 
--- what making a path, the name and the path of a file, and a restricted name of a file answer
+-- what making a path, and the name of a file, answer
 abbrev pub MakesPath : List ℕ → Result (List ℕ) SemanticStringError → Type 0
 MakesPath bytes made = MakesLegal (IsAllowed (λ b. ⊤) 255) 255 bytes made
 
 abbrev pub MakesFileName : List ℕ → Result (List ℕ) SemanticStringError → Type 0
 MakesFileName bytes made = MakesLegal (IsAllowed IsPlain 255) 255 bytes made
-
-abbrev pub MakesFilePath : List ℕ → Result (List ℕ) SemanticStringError → Type 0
-MakesFilePath bytes made = MakesLegal (IsAllowed EndsPlain 255) 255 bytes made
-
-abbrev pub MakesRestricted : List ℕ → Result (List ℕ) SemanticStringError → Type 0
-MakesRestricted bytes made = MakesLegal (IsAllowed IsRestricted 64) 64 bytes made
 
 -- the byte is one of the alphabet
 abbrev pub IsLegal : Alphabet → ℕ → Type 0
@@ -56,9 +50,32 @@ abbrev pub ChecksText : (Result (List ℕ) SemanticStringError → Type 0) → A
 ChecksText Makes a most bytes answer =
     (made : Result (List ℕ) SemanticStringError) × Makes made × ReportsText made bytes a most answer
 
--- the same for the name that a user gives to a service: the prefix is looked at first
-abbrev pub ChecksName : List ℕ → PlaceAnswer → Type 0
-ChecksName bytes answer =
+-- of a text of at most so many bytes, as names, keys and values are
+abbrev pub ChecksName : ℕ → List ℕ → PlaceAnswer → Type 0
+ChecksName most bytes answer = ChecksText (MakesName most bytes) alphabet.Text most bytes answer
+
+-- of the name that a user gives to a service: the prefix is looked at first
+abbrev pub ChecksUserName : List ℕ → PlaceAnswer → Type 0
+ChecksUserName bytes answer =
     MatchBool (starts_with nat_eq bytes (codes "iox2://"))
-    (answer ≡ place_answer status.ReservedPrefix 0)
-    (ChecksText (MakesName 255 bytes) alphabet.Text 255 bytes answer)
+    (answer ≡ place_answer status.ReservedPrefix 0) (ChecksName 255 bytes answer)
+
+-- of the name of a service, which may be one of the system's own where the flag says so
+abbrev pub ChecksAnyName : Bool → List ℕ → PlaceAnswer → Type 0
+ChecksAnyName false bytes answer = ChecksUserName bytes answer
+ChecksAnyName true bytes answer = ChecksName 255 bytes answer
+
+-- of a path, of the name and the path of a file, and of a restricted name of a file
+abbrev pub ChecksPath : List ℕ → PlaceAnswer → Type 0
+ChecksPath bytes answer = ChecksText (MakesPath bytes) alphabet.Text 255 bytes answer
+
+abbrev pub ChecksFileName : List ℕ → PlaceAnswer → Type 0
+ChecksFileName bytes answer = ChecksText (MakesFileName bytes) alphabet.FileName 255 bytes answer
+
+abbrev pub ChecksFilePath : List ℕ → PlaceAnswer → Type 0
+ChecksFilePath bytes answer =
+    ChecksText (MakesLegal (IsAllowed EndsPlain 255) 255 bytes) alphabet.Text 255 bytes answer
+
+abbrev pub ChecksRestricted : List ℕ → PlaceAnswer → Type 0
+ChecksRestricted bytes answer =
+    ChecksText (MakesLegal (IsAllowed IsRestricted 64) 64 bytes) alphabet.Restricted 64 bytes answer

@@ -1,18 +1,15 @@
 //! Attributes without handles: a caller's arrays of keys and values.
 ghost use Rattle.std.specs.Prelude.{◌≡◌, ◌≤◌, [], map, take, length, slice_get};
-ghost use Rattle.std.specs.Option.{ok_or, option_copied};
+ghost use Rattle.std.specs.Option.{option_copied};
 ghost use Rattle.iox2_texts.specs.Attribute.{IsListing, values_of};
 ghost use Rattle.iox2sd_values.specs.Attributes.{ReportsSet, SortsSet, CountsValues, ReportsValue};
-ghost use Rattle.iox2sd_values.specs.Attributes.{pair_of, text_of, set_fault, required_fault};
-ghost use Rattle.iox2sd_values.specs.Attributes.{ChecksPairs, ChecksKeys, OfSet};
-ghost use Rattle.iox2sd_values.specs.Attributes.{Judges, VerifiesSet};
-ghost use Rattle.iox2sd_values.specs.Causes.{PlaceBut, CountBut, TextBut, SetCause, SearchedKeyCause};
-ghost use Rattle.iox2sd_values.specs.Causes.{RequiredCause};
-ghost use Rattle.iox2sd_common.specs.Answers.{ReportsText};
-ghost use Rattle.iox2sd_common.specs.declared.status.Status.TheVariants as status;
+ghost use Rattle.iox2sd_values.specs.Attributes.{pair_of, text_of, set_refusal, required_refusal};
+ghost use Rattle.iox2sd_values.specs.Attributes.{ChecksPairs, ChecksKeys, ReadsAsked, OfSet};
+ghost use Rattle.iox2sd_values.specs.Attributes.{Judges, VerifiesSet, value_at};
+ghost use Rattle.iox2sd_values.specs.Refusals.{ReportsMade};
 
-use super::causes::{required_cause, searched_key_cause, set_cause};
-use super::texts::is_name;
+use super::refusals::Refusal;
+use super::texts::{iox2sd_attribute_key_check_at, iox2sd_attribute_value_check_at, is_name};
 use iox2_texts::attribute::{
     AttributeKey, MAX_ATTRIBUTE_KEY_LENGTH, MAX_ATTRIBUTE_VALUE_LENGTH, MAX_ATTRIBUTES,
     Requirement, first_missing, first_that_meets,
@@ -43,34 +40,34 @@ pub struct Key<'a> {
 /// What is wrong with a pair.
 #[derive(Clone, Copy)]
 enum Fault {
-    /// Its key is none.
-    Key,
-    /// Its value is none.
-    Value,
+    /// Its key is none, since its check answers the status of this number.
+    Key(u32),
+    /// Its value is none, since its check answers this one.
+    Value(u32),
     /// It is the seventeenth.
     Number,
 }
 
 impl Fault {
-    /// The status for it of a pair of a set.
-    fn of_set(self) -> Status
-        ensures { result ≡ set_fault self }
+    /// Why a pair of a set is refused for it.
+    fn of_set(self) -> Refusal
+        ensures { result ≡ set_refusal self }
     {
         match self {
-            Fault::Key => Status::BadKey,
-            Fault::Value => Status::BadValue,
-            Fault::Number => Status::TooMany,
+            Fault::Key(cause) => Refusal::OfText(Status::BadKey, cause),
+            Fault::Value(cause) => Refusal::OfText(Status::BadValue, cause),
+            Fault::Number => Refusal::Because(Status::TooMany),
         }
     }
 
-    /// The status for it of a required pair.
-    fn of_required(self) -> Status
-        ensures { result ≡ required_fault self }
+    /// Why a required pair is refused for it.
+    fn of_required(self) -> Refusal
+        ensures { result ≡ required_refusal self }
     {
         match self {
-            Fault::Key => Status::BadRequiredKey,
-            Fault::Value => Status::BadRequiredValue,
-            Fault::Number => Status::TooManyRequired,
+            Fault::Key(cause) => Refusal::OfText(Status::BadRequiredKey, cause),
+            Fault::Value(cause) => Refusal::OfText(Status::BadRequiredValue, cause),
+            Fault::Number => Refusal::Because(Status::TooManyRequired),
         }
     }
 }
@@ -83,26 +80,22 @@ fn check_pairs(pairs: &[Attribute<'_>]) -> Result<(), (Fault, usize)>
 {
     for (i, pair) in pairs.iter().enumerate() {
         if !is_name(pair.key, MAX_ATTRIBUTE_KEY_LENGTH) {
-            return Err((Fault::Key, i));
+            return Err((
+                Fault::Key(iox2sd_attribute_key_check_at(pair.key).status),
+                i,
+            ));
         }
         if !is_name(pair.value, MAX_ATTRIBUTE_VALUE_LENGTH) {
-            return Err((Fault::Value, i));
+            return Err((
+                Fault::Value(iox2sd_attribute_value_check_at(pair.value).status),
+                i,
+            ));
         }
         if i == MAX_ATTRIBUTES {
             return Err((Fault::Number, i));
         }
     }
     Ok(())
-}
-
-/// Whether the pairs are a set, or the first that is wrong.
-fn report_set(pairs: &[Attribute<'_>]) -> PlaceAnswer
-    ensures { ReportsSet pairs.now result }
-{
-    match check_pairs(pairs) {
-        Ok(()) => position(Status::Done, 0),
-        Err((fault, at)) => position(fault.of_set(), at),
-    }
 }
 
 /// Whether these pairs are a set: at most sixteen, each of legal texts, in any order and with
@@ -112,24 +105,11 @@ fn report_set(pairs: &[Attribute<'_>]) -> PlaceAnswer
 /// `BadKey`, for a right key and a wrong value `BadValue`, for the seventeenth `TooMany`.
 #[unsafe(no_mangle)]
 pub extern "C" fn iox2sd_attributes_check_at(pairs: &[Attribute<'_>]) -> PlaceAnswer
-    ensures reports { PlaceBut (ReportsSet pairs.now) result }
-    ensures cause { SetCause pairs.now result.at result.status result.cause }
-{
-    let mut reported = report_set(pairs);
-    reported.cause = set_cause(reported.status, pairs, reported.at);
-    reported
-}
-
-/// Sorts the pairs of a set, or reports the first that is wrong.
-fn sort_set(pairs: &mut [Attribute<'_>]) -> PlaceAnswer
-    ensures { SortsSet pairs.old result pairs.new }
+    ensures { ReportsSet pairs.now result }
 {
     match check_pairs(pairs) {
-        Ok(()) => {
-            pairs.sort_unstable();
-            position(Status::Done, 0)
-        }
-        Err((fault, at)) => position(fault.of_set(), at),
+        Ok(()) => position(Status::Done, 0),
+        Err((fault, at)) => fault.of_set().place(at),
     }
 }
 
@@ -138,12 +118,15 @@ fn sort_set(pairs: &mut [Attribute<'_>]) -> PlaceAnswer
 /// Refused as by `iox2sd_attributes_check`, and then the array stays as it was.
 #[unsafe(no_mangle)]
 pub extern "C" fn iox2sd_attributes_sort_at(pairs: &mut [Attribute<'_>]) -> PlaceAnswer
-    ensures reports { PlaceBut (λ answer. SortsSet pairs.old answer pairs.new) result }
-    ensures cause { SetCause pairs.new result.at result.status result.cause }
+    ensures { SortsSet pairs.old result pairs.new }
 {
-    let mut reported = sort_set(pairs);
-    reported.cause = set_cause(reported.status, pairs, reported.at);
-    reported
+    match check_pairs(pairs) {
+        Ok(()) => {
+            pairs.sort_unstable();
+            position(Status::Done, 0)
+        }
+        Err((fault, at)) => fault.of_set().place(at),
+    }
 }
 
 /// How many pairs have the key.
@@ -186,32 +169,19 @@ fn sorted<'a>(pairs: &[Attribute<'a>]) -> [Attribute<'a>; MAX_ATTRIBUTES]
     copies
 }
 
-/// Writes the value at `index`, counted from 0, of those that the key has, by their bytes from the
-/// least.
-fn write_value(pairs: &[Attribute<'_>], key: &[u8], index: usize, out: &mut [u8]) -> TextAnswer
-    requires { length pairs.now ≤ 16 }
-    ensures { OfSet pairs.now (λ set. ReportsText
-        (ok_or (slice_get (values_of set key.now) index) status.NoSuchValue)
-        out.old result out.new) }
+/// The key whose values are searched for, or why none are.
+fn asked_key(pairs: &[Attribute<'_>], key: &[u8]) -> Result<AttributeKey, Refusal>
+    ensures { ReadsAsked pairs.now key.now result }
 {
-    let copies = sorted(pairs);
-    match value_at(&copies[..pairs.len()], key, index) {
-        Some(value) => write(value, out),
-        None => no_text(Status::NoSuchValue),
+    if let Err((fault, _)) = check_pairs(pairs) {
+        return Err(fault.of_set());
     }
-}
-
-/// How many values the key has, or why it is not searched for.
-#[tactic(auto, using(crate::proofs::Values::as_in_listing))]
-fn count_of(pairs: &[Attribute<'_>], key: &[u8]) -> CountAnswer
-    ensures { CountsValues pairs.now key.now result }
-{
-    match check_pairs(pairs) {
-        Ok(()) => match AttributeKey::new(key) {
-            Ok(_) => count(Status::Done, count_values(pairs, key)),
-            Err(_) => count(Status::BadAskedKey, 0),
-        },
-        Err((fault, _)) => count(fault.of_set(), 0),
+    match AttributeKey::new(key) {
+        Ok(name) => Ok(name),
+        Err(_) => {
+            let cause = iox2sd_attribute_key_check_at(key).status;
+            Err(Refusal::OfText(Status::BadAskedKey, cause))
+        }
     }
 }
 
@@ -219,29 +189,31 @@ fn count_of(pairs: &[Attribute<'_>], key: &[u8]) -> CountAnswer
 ///
 /// Refused are, in this order, pairs that `iox2sd_attributes_check` refuses, with its status, and a
 /// wrong key (`BadAskedKey`).
+#[tactic(auto, using(crate::proofs::Values::as_in_listing))]
 #[unsafe(no_mangle)]
 pub extern "C" fn iox2sd_attributes_number_of_key_values_at(
     pairs: &[Attribute<'_>],
     key: &[u8],
 ) -> CountAnswer
-    ensures reports { CountBut (CountsValues pairs.now key.now) result }
-    ensures cause { SearchedKeyCause pairs.now key.now result.status result.cause }
+    ensures { CountsValues pairs.now key.now result }
 {
-    let mut reported = count_of(pairs, key);
-    reported.cause = searched_key_cause(reported.status, pairs, key);
-    reported
+    match asked_key(pairs, key) {
+        Ok(_) => count(Status::Done, count_values(pairs, key)),
+        Err(refusal) => refusal.count(),
+    }
 }
 
-/// Writes the value of the key at the index, or reports why there is none.
-fn write_of(pairs: &[Attribute<'_>], key: &[u8], index: usize, out: &mut [u8]) -> TextAnswer
-    ensures { ReportsValue pairs.now key.now index out.old result out.new }
+/// Writes the value at `index`, counted from 0, of those that the key has, by their bytes from the
+/// least.
+fn write_value(pairs: &[Attribute<'_>], key: &[u8], index: usize, out: &mut [u8]) -> TextAnswer
+    requires { length pairs.now ≤ 16 }
+    ensures { OfSet pairs.now (λ set. ReportsMade (value_at set key.now index)
+        out.old result out.new) }
 {
-    match check_pairs(pairs) {
-        Ok(()) => match AttributeKey::new(key) {
-            Ok(_) => write_value(pairs, key, index, out),
-            Err(_) => no_text(Status::BadAskedKey),
-        },
-        Err((fault, _)) => no_text(fault.of_set()),
+    let copies = sorted(pairs);
+    match value_at(&copies[..pairs.len()], key, index) {
+        Some(value) => write(value, out),
+        None => no_text(Status::NoSuchValue),
     }
 }
 
@@ -257,29 +229,28 @@ pub extern "C" fn iox2sd_attributes_key_value_at(
     index: usize,
     out: &mut [u8],
 ) -> TextAnswer
-    ensures reports { TextBut (λ answer. ReportsValue pairs.now key.now index out.old answer
-        out.new)
-        result }
-    ensures cause { SearchedKeyCause pairs.now key.now result.status result.cause }
+    ensures { ReportsValue pairs.now key.now index out.old result out.new }
 {
-    let mut reported = write_of(pairs, key, index, out);
-    reported.cause = searched_key_cause(reported.status, pairs, key);
-    reported
+    match asked_key(pairs, key) {
+        Ok(_) => write_value(pairs, key, index, out),
+        Err(refusal) => refusal.text(),
+    }
 }
 
 /// Whether the keys may be required beside so many pairs, or why the first that is wrong may not,
 /// and its index.
 #[tactic(auto, using(crate::proofs::Legal::searched))]
-fn check_keys(keys: &[Key<'_>], pairs: usize) -> Result<(), (Status, usize)>
+fn check_keys(keys: &[Key<'_>], pairs: usize) -> Result<(), (Refusal, usize)>
     requires { pairs ≤ 16 }
     ensures { ChecksKeys pairs keys.now result }
 {
     for (i, key) in keys.iter().enumerate() {
         if !is_name(key.text, MAX_ATTRIBUTE_KEY_LENGTH) {
-            return Err((Status::BadAskedKey, i));
+            let cause = iox2sd_attribute_key_check_at(key.text).status;
+            return Err((Refusal::OfText(Status::BadAskedKey, cause), i));
         }
         if pairs + i == MAX_ATTRIBUTES {
-            return Err((Status::TooManyRequired, i));
+            return Err((Refusal::Because(Status::TooManyRequired), i));
         }
     }
     Ok(())
@@ -322,22 +293,6 @@ fn verify(set: &[Attribute<'_>], required: &[Attribute<'_>], keys: &[Key<'_>]) -
     }
 }
 
-/// Whether the set has what is required, or the first reason why not.
-fn judge(pairs: &[Attribute<'_>], required: &[Attribute<'_>], keys: &[Key<'_>]) -> PlaceAnswer
-    ensures { VerifiesSet pairs.now required.now keys.now result }
-{
-    if let Err((fault, at)) = check_pairs(pairs) {
-        return position(fault.of_set(), at);
-    }
-    if let Err((fault, at)) = check_pairs(required) {
-        return position(fault.of_required(), at);
-    }
-    if let Err((status, at)) = check_keys(keys, required.len()) {
-        return position(status, at);
-    }
-    verify(pairs, required, keys)
-}
-
 /// Whether a set has each required pair, and for each required key some pair with it.
 ///
 /// Refused are, in this order, pairs that `iox2sd_attributes_check` refuses, with its answer; the
@@ -352,11 +307,16 @@ pub extern "C" fn iox2sd_attributes_verify_at(
     required: &[Attribute<'_>],
     keys: &[Key<'_>],
 ) -> PlaceAnswer
-    ensures reports { PlaceBut (VerifiesSet pairs.now required.now keys.now) result }
-    ensures cause { RequiredCause pairs.now required.now keys.now result.at
-        result.status result.cause }
+    ensures { VerifiesSet pairs.now required.now keys.now result }
 {
-    let mut reported = judge(pairs, required, keys);
-    reported.cause = required_cause(reported.status, pairs, required, keys, reported.at);
-    reported
+    if let Err((fault, at)) = check_pairs(pairs) {
+        return fault.of_set().place(at);
+    }
+    if let Err((fault, at)) = check_pairs(required) {
+        return fault.of_required().place(at);
+    }
+    if let Err((refusal, at)) = check_keys(keys, required.len()) {
+        return refusal.place(at);
+    }
+    verify(pairs, required, keys)
 }

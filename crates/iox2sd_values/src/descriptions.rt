@@ -3,7 +3,6 @@
 ghost use Rattle.std.specs.Prelude.{◌≡◌, [], Ok};
 ghost use Rattle.iox2_config.specs.Hashing.{pattern_number};
 ghost use Rattle.iox2sd_common.specs.Ids.{number_of};
-ghost use Rattle.iox2sd_values.specs.Causes.{FieldBut, NameCause};
 ghost use Rattle.iox2sd_values.specs.Descriptions.{c_description, ComparesPatterns, DescribesAs};
 ghost use Rattle.iox2sd_values.specs.Descriptions.{publish_subscribe_config, event_config};
 ghost use Rattle.iox2sd_values.specs.Descriptions.{request_response_config, blackboard_config};
@@ -11,8 +10,8 @@ ghost use Rattle.iox2sd_values.specs.Descriptions.{Fills, FillsOf, FillsNamed, M
 ghost use Rattle.iox2sd_values.specs.Descriptions.{MakesPublishSubscribe, MakesEvent};
 ghost use Rattle.iox2sd_values.specs.Descriptions.{MakesRequestResponse};
 
-use super::causes::name_cause;
 use super::names::{any_service_name, hash_text};
+use super::refusals::Refusal;
 use iox2_config::hash::{PatternKind, ServiceHash};
 use iox2_static::static_config::messaging_pattern::MessagingPattern;
 use iox2_static::static_config::{blackboard, event, publish_subscribe, request_response};
@@ -252,45 +251,48 @@ fn described(
 
 /// The description of a service with this name and this pattern, each of which may be refused.
 fn describe(
-    name: Result<ServiceName, Status>,
+    name: &Result<ServiceName, Refusal>,
     pattern: &Result<MessagingPattern, Field>,
     id: Id,
 ) -> Result<ServiceDescription, FieldAnswer>
-    ensures { DescribesAs name pattern.now id result }
+    ensures { DescribesAs name.now pattern.now id result }
 {
     let name = match name {
         Ok(name) => name,
-        Err(status) => return Err(no_field(status)),
+        Err(refusal) => return Err(refusal.field()),
     };
     match pattern {
-        Ok(pattern) => match hash_text(pattern.kind(), &name) {
-            Ok(hash) => described(&name, &hash, pattern, id),
-            Err(status) => Err(no_field(status)),
-        },
+        Ok(pattern) => {
+            let hash = match hash_text(pattern.kind(), name) {
+                Ok(hash) => hash,
+                Err(refusal) => return Err(refusal.field()),
+            };
+            described(name, &hash, pattern, id)
+        }
         Err(field) => Err(field.answer()),
     }
 }
 
 /// Fills the first struct with what was made, or leaves it as it is.
 fn fill(
-    made: Result<ServiceDescription, FieldAnswer>,
+    made: &Result<ServiceDescription, FieldAnswer>,
     out: &mut [ServiceDescription],
 ) -> FieldAnswer
-    ensures { Fills out.old made result out.new }
+    ensures { Fills out.old made.now result out.new }
 {
     match out {
         [] => no_field(Status::Null),
         [first, ..] => match made {
             Ok(description) => {
-                *first = description;
+                *first = *description;
                 no_field(Status::Done)
             }
-            Err(answer) => answer,
+            Err(answer) => *answer,
         },
     }
 }
 
-/// Describes the service with this pattern, or reports why not and for what cause.
+/// Describes the service with this pattern, or reports why not.
 fn describe_as(
     pattern: &Result<MessagingPattern, Field>,
     name: &[u8],
@@ -298,16 +300,14 @@ fn describe_as(
     id: Id,
     out: &mut [ServiceDescription],
 ) -> FieldAnswer
-    ensures reports { FieldBut (λ answer. FillsOf pattern.now internal name.now id
-        out.old answer out.new) result }
-    ensures cause { NameCause internal name.now result.status result.cause }
+    ensures { FillsOf pattern.now internal name.now id out.old result out.new }
 {
-    let mut reported = fill(describe(any_service_name(name, internal), pattern, id), out);
-    reported.cause = name_cause(reported.status, name, internal);
-    reported
+    let name = any_service_name(name, internal);
+    fill(&describe(&name, pattern, id), out)
 }
 
 /// The pattern of a publish-subscribe service with these settings, or the first invalid field.
+#[tactic(auto, unfolding(crate::specs::Descriptions::MakesPublishSubscribe))]
 fn publish_subscribe_pattern(settings: &PublishSubscribeSettings) -> Result<MessagingPattern, Field>
     ensures { MakesPublishSubscribe settings.now result }
 {
@@ -332,9 +332,8 @@ pub extern "C" fn iox2sd_describe_publish_subscribe_at(
     id: Id,
     out: &mut [ServiceDescription],
 ) -> FieldAnswer
-    ensures reports { FieldBut (λ answer. FillsNamed MakesPublishSubscribe settings.now internal
-        name.now id out.old answer out.new) result }
-    ensures cause { NameCause internal name.now result.status result.cause }
+    ensures { FillsNamed MakesPublishSubscribe settings.now internal name.now id out.old result
+        out.new }
 {
     let settings = given_or_return!(settings, no_field(Status::Null));
     let pattern = publish_subscribe_pattern(settings);
@@ -342,6 +341,7 @@ pub extern "C" fn iox2sd_describe_publish_subscribe_at(
 }
 
 /// The pattern of an event service with these settings, or the first invalid field.
+#[tactic(auto, unfolding(crate::specs::Descriptions::MakesEvent))]
 fn event_pattern(settings: &EventSettings) -> Result<MessagingPattern, Field>
     ensures { MakesEvent settings.now result }
 {
@@ -359,15 +359,15 @@ pub extern "C" fn iox2sd_describe_event_at(
     id: Id,
     out: &mut [ServiceDescription],
 ) -> FieldAnswer
-    ensures reports { FieldBut (λ answer. FillsNamed MakesEvent settings.now internal name.now
-        id out.old answer out.new) result }
-    ensures cause { NameCause internal name.now result.status result.cause }
+    ensures { FillsNamed MakesEvent settings.now internal name.now id out.old result
+        out.new }
 {
     let settings = given_or_return!(settings, no_field(Status::Null));
     describe_as(&event_pattern(settings), name, internal, id, out)
 }
 
 /// The pattern of a request-response service with these settings, or the first invalid field.
+#[tactic(auto, unfolding(crate::specs::Descriptions::MakesRequestResponse))]
 fn request_response_pattern(settings: &RequestResponseSettings) -> Result<MessagingPattern, Field>
     ensures { MakesRequestResponse settings.now result }
 {
@@ -385,16 +385,15 @@ pub extern "C" fn iox2sd_describe_request_response_at(
     id: Id,
     out: &mut [ServiceDescription],
 ) -> FieldAnswer
-    ensures reports { FieldBut (λ answer. FillsNamed MakesRequestResponse settings.now internal
-        name.now
-        id out.old answer out.new) result }
-    ensures cause { NameCause internal name.now result.status result.cause }
+    ensures { FillsNamed MakesRequestResponse settings.now internal name.now id out.old result
+        out.new }
 {
     let settings = given_or_return!(settings, no_field(Status::Null));
     describe_as(&request_response_pattern(settings), name, internal, id, out)
 }
 
 /// The pattern of a blackboard service with these settings, which are always valid.
+#[tactic(auto, unfolding(crate::specs::Descriptions::MakesBlackboard))]
 fn blackboard_pattern(settings: &BlackboardSettings) -> Result<MessagingPattern, Field>
     ensures { MakesBlackboard settings.now result }
 {
@@ -412,9 +411,8 @@ pub extern "C" fn iox2sd_describe_blackboard_at(
     id: Id,
     out: &mut [ServiceDescription],
 ) -> FieldAnswer
-    ensures reports { FieldBut (λ answer. FillsNamed MakesBlackboard settings.now internal name.now
-        id out.old answer out.new) result }
-    ensures cause { NameCause internal name.now result.status result.cause }
+    ensures { FillsNamed MakesBlackboard settings.now internal name.now id out.old result
+        out.new }
 {
     let settings = given_or_return!(settings, no_field(Status::Null));
     describe_as(&blackboard_pattern(settings), name, internal, id, out)

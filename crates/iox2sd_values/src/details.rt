@@ -1,6 +1,6 @@
 //! What a caller says of the parts of a message.
 ghost use Rattle.iox2sd_values.specs.Messages.{ReadsVariant, ReadsPart, ReadsDetails, ShapesPart};
-ghost use Rattle.iox2sd_values.specs.Messages.{ShapesDetails, ChecksPart};
+ghost use Rattle.iox2sd_values.specs.Messages.{ShapesDetails, ChecksPart, ReadsPartOf};
 
 use iox2_config::types::{MessageTypeDetails, TypeDetail, TypeDetailError, TypeVariant};
 use iox2_texts::bounded::StringModificationError;
@@ -104,35 +104,28 @@ pub extern "C" fn iox2sd_type_detail_check_at(part: &[Part<'_>]) -> u32
     }
 }
 
+/// The type of a part, or what is wrong with it.
+fn part_of(part: &Part<'_>, which: Which) -> Result<TypeDetail, Fault>
+    ensures { ReadsPartOf part.now which result }
+{
+    match read_part(part) {
+        Ok(detail) => Ok(detail),
+        Err(status) => Err(Fault {
+            part: which,
+            status,
+        }),
+    }
+}
+
 /// The types of all parts, or what is wrong with the first invalid part.
 pub(super) fn read_details(details: &Details<'_>) -> Result<MessageTypeDetails, Fault>
     ensures { ReadsDetails details.now result }
 {
-    let header = match read_part(&details.header) {
-        Ok(header) => header,
-        Err(status) => {
-            let part = Which::Header;
-            return Err(Fault { part, status });
-        }
-    };
-    let user_header = match read_part(&details.user_header) {
-        Ok(user_header) => user_header,
-        Err(status) => {
-            let part = Which::UserHeader;
-            return Err(Fault { part, status });
-        }
-    };
-    match read_part(&details.payload) {
-        Ok(payload) => Ok(MessageTypeDetails {
-            header,
-            user_header,
-            payload,
-        }),
-        Err(status) => {
-            let part = Which::Payload;
-            Err(Fault { part, status })
-        }
-    }
+    Ok(MessageTypeDetails {
+        header: part_of(&details.header, Which::Header)?,
+        user_header: part_of(&details.user_header, Which::UserHeader)?,
+        payload: part_of(&details.payload, Which::Payload)?,
+    })
 }
 
 /// The size and the alignment of a part, without its name and its variant.

@@ -1,13 +1,11 @@
 //! Where the system's files lie and how they are called, where nothing else is said.
 ghost use Rattle.std.specs.Prelude.{◌≡◌};
 ghost use Rattle.iox2_config.specs.Defaults.{default_service, default_node};
-ghost use Rattle.iox2sd_values.specs.Causes.{TextBut, RootCause};
-ghost use Rattle.iox2sd_values.specs.Paths.{IsLegal, Joins, ReportsJoined, ReportsNamed};
+ghost use Rattle.iox2sd_values.specs.Paths.{JoinsPath, ReportsNamed};
+ghost use Rattle.iox2sd_values.specs.Refusals.{ReportsBy};
 
-use super::causes::root_cause;
-use super::paths::report_path;
+use super::paths::iox2sd_path_add_path_entry_at;
 use iox2_config::config::{Config, Node, Service};
-use iox2_texts::paths::Path;
 use iox2sd_common::answers::{TextAnswer, no_text, write};
 use iox2sd_common::status::Status;
 
@@ -52,46 +50,20 @@ pub extern "C" fn iox2sd_default_text_at(which: u32, out: &mut [u8]) -> TextAnsw
     write_named(which, &Service::default(), &Node::default(), out)
 }
 
-/// A directory below a root path.
-fn below(root: &[u8], directory: &Path) -> Result<Path, Status>
-    ensures { Joins IsLegal root.now directory.now result }
-{
-    let mut joined = Path::new(root).map_err(|_| Status::BadPath)?;
-    joined
-        .add_path_entry(directory)
-        .map_err(|_| Status::TooLong)?;
-    Ok(joined)
-}
-
-/// Writes a directory below a root path, or says why there is none and for what cause.
-fn write_below(root: &[u8], directory: &Path, out: &mut [u8]) -> TextAnswer
-    ensures reports { TextBut (λ answer. ReportsJoined IsLegal root.now directory.now out.old answer
-        out.new) result }
-    ensures cause { RootCause root.now result.status result.cause }
-{
-    let mut reported = report_path(below(root, directory), out);
-    reported.cause = root_cause(reported.status, root);
-    reported
-}
-
 /// Writes the directory of services below a root path.
 ///
 /// Refused are, in this order, a wrong root path (`BadPath`), and more than 255 bytes (`TooLong`).
 #[unsafe(no_mangle)]
 pub extern "C" fn iox2sd_service_dir_at(root: &[u8], out: &mut [u8]) -> TextAnswer
-    ensures reports { TextBut (λ answer. ReportsJoined IsLegal root.now default_service.directory
-        out.old answer out.new) result }
-    ensures cause { RootCause root.now result.status result.cause }
+    ensures { ReportsBy (JoinsPath root.now default_service.directory) out.old result out.new }
 {
-    write_below(root, &Service::default().directory, out)
+    iox2sd_path_add_path_entry_at(root, Service::default().directory.as_bytes(), out)
 }
 
 /// Writes the directory of nodes below a root path. Refused as that of services is.
 #[unsafe(no_mangle)]
 pub extern "C" fn iox2sd_node_dir_at(root: &[u8], out: &mut [u8]) -> TextAnswer
-    ensures reports { TextBut (λ answer. ReportsJoined IsLegal root.now default_node.directory
-        out.old answer out.new) result }
-    ensures cause { RootCause root.now result.status result.cause }
+    ensures { ReportsBy (JoinsPath root.now default_node.directory) out.old result out.new }
 {
-    write_below(root, &Node::default().directory, out)
+    iox2sd_path_add_path_entry_at(root, Node::default().directory.as_bytes(), out)
 }

@@ -3,7 +3,6 @@
 
 pub mod attributes;
 pub mod capacities;
-mod causes;
 pub mod chunks;
 pub mod compatible;
 pub mod descriptions;
@@ -13,6 +12,7 @@ pub mod laws;
 pub mod layout;
 pub mod names;
 pub mod paths;
+mod refusals;
 pub mod satisfies;
 pub mod settings;
 pub mod texts;

@@ -1,47 +1,56 @@
 //! Paths that are joined.
-ghost use Rattle.iox2sd_common.specs.Answers.{ReportsText};
-ghost use Rattle.iox2sd_values.specs.Causes.{TextBut, JoinCause, ChecksPath, ChecksFileName};
-ghost use Rattle.iox2sd_values.specs.Paths.{Joins, ReportsJoined};
-ghost use Rattle.iox2sd_values.specs.Texts.{MakesPath, MakesFileName};
+ghost use Rattle.iox2sd_values.specs.Paths.{JoinsPath, JoinsFile};
+ghost use Rattle.iox2sd_values.specs.Refusals.{MakesOr, ReportsBy};
+ghost use Rattle.iox2sd_values.specs.Texts.{MakesPath, ChecksPath, MakesFileName, ChecksFileName};
+ghost use Rattle.iox2sd_common.specs.declared.status.Status.TheVariants as status;
 
-use super::causes::{entry_cause, file_cause};
-use iox2_texts::bounded::{Content, SemanticString};
+use super::refusals::Refusal;
+use super::texts::{iox2sd_file_name_check_at, iox2sd_path_check_at};
 use iox2_texts::paths::{FileName, FilePath, Path};
-use iox2sd_common::answers::{TextAnswer, no_text, write};
+use iox2sd_common::answers::{TextAnswer, write};
 use iox2sd_common::status::Status;
 
-/// The entry joined to the path.
-fn join_paths(path: &[u8], entry: &[u8]) -> Result<Path, Status>
-    ensures { Joins MakesPath path.now entry.now result }
+/// The path that the bytes are, or that they are refused with this status.
+fn read_path(bytes: &[u8], refused: Status) -> Result<Path, Refusal>
+    ensures { MakesOr (MakesPath bytes.now) (ChecksPath bytes.now) refused result }
 {
-    let mut joined = Path::new(path).map_err(|_| Status::BadPath)?;
-    let entry = Path::new(entry).map_err(|_| Status::BadEntry)?;
-    joined.add_path_entry(&entry).map_err(|_| Status::TooLong)?;
-    Ok(joined)
-}
-
-/// The path of the file in the directory.
-fn join_file(path: &[u8], file: &[u8]) -> Result<FilePath, Status>
-    ensures { Joins MakesFileName path.now file.now result }
-{
-    let path = Path::new(path).map_err(|_| Status::BadPath)?;
-    let file = FileName::new(file).map_err(|_| Status::BadEntry)?;
-    match FilePath::from_path_and_file(&path, &file) {
-        Ok(joined) => Ok(joined),
-        Err(_) => Err(Status::TooLong),
+    match Path::new(bytes) {
+        Ok(path) => Ok(path),
+        Err(_) => Err(Refusal::OfText(refused, iox2sd_path_check_at(bytes).status)),
     }
 }
 
-/// Writes the path, or says why there is none.
-pub(super) fn report_path<C: Content>(
-    path: Result<SemanticString<C, 255>, Status>,
-    out: &mut [u8],
-) -> TextAnswer
-    ensures { ReportsText path out.old result out.new }
+/// The entry joined to the path.
+fn join_paths(path: &[u8], entry: &[u8]) -> Result<Path, Refusal>
+    ensures { JoinsPath path.now entry.now result }
 {
-    match path {
-        Ok(path) => write(path.as_bytes(), out),
-        Err(status) => no_text(status),
+    let mut joined = read_path(path, Status::BadPath)?;
+    let entry = read_path(entry, Status::BadEntry)?;
+    match joined.add_path_entry(&entry) {
+        Ok(()) => Ok(joined),
+        Err(_) => Err(Refusal::Because(Status::TooLong)),
+    }
+}
+
+/// The name of a file that the bytes are, or that they are refused as an entry.
+fn read_file_name(bytes: &[u8]) -> Result<FileName, Refusal>
+    ensures { MakesOr (MakesFileName bytes.now) (ChecksFileName bytes.now) status.BadEntry result }
+{
+    match FileName::new(bytes) {
+        Ok(file) => Ok(file),
+        Err(_) => Err(Refusal::OfText(Status::BadEntry, iox2sd_file_name_check_at(bytes).status)),
+    }
+}
+
+/// The path of the file in the directory.
+fn join_file(path: &[u8], file: &[u8]) -> Result<FilePath, Refusal>
+    ensures { JoinsFile path.now file.now result }
+{
+    let path = read_path(path, Status::BadPath)?;
+    let file = read_file_name(file)?;
+    match FilePath::from_path_and_file(&path, &file) {
+        Ok(joined) => Ok(joined),
+        Err(_) => Err(Refusal::Because(Status::TooLong)),
     }
 }
 
@@ -56,13 +65,12 @@ pub extern "C" fn iox2sd_path_add_path_entry_at(
     entry: &[u8],
     out: &mut [u8],
 ) -> TextAnswer
-    ensures reports { TextBut (λ answer. ReportsJoined MakesPath path.now entry.now out.old answer
-        out.new) result }
-    ensures cause { JoinCause (ChecksPath entry.now) path.now result.status result.cause }
+    ensures { ReportsBy (JoinsPath path.now entry.now) out.old result out.new }
 {
-    let mut reported = report_path(join_paths(path, entry), out);
-    reported.cause = entry_cause(reported.status, path, entry);
-    reported
+    match join_paths(path, entry) {
+        Ok(joined) => write(joined.as_bytes(), out),
+        Err(refusal) => refusal.text(),
+    }
 }
 
 /// Writes the path of a file in a directory, with one `/` between them unless the directory is
@@ -76,11 +84,10 @@ pub extern "C" fn iox2sd_file_path_from_path_and_file_at(
     file: &[u8],
     out: &mut [u8],
 ) -> TextAnswer
-    ensures reports { TextBut (λ answer. ReportsJoined MakesFileName path.now file.now out.old
-        answer out.new) result }
-    ensures cause { JoinCause (ChecksFileName file.now) path.now result.status result.cause }
+    ensures { ReportsBy (JoinsFile path.now file.now) out.old result out.new }
 {
-    let mut reported = report_path(join_file(path, file), out);
-    reported.cause = file_cause(reported.status, path, file);
-    reported
+    match join_file(path, file) {
+        Ok(joined) => write(joined.as_bytes(), out),
+        Err(refusal) => refusal.text(),
+    }
 }

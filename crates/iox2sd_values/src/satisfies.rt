@@ -17,36 +17,15 @@ use iox2sd_common::read_settings::{Field, FieldAnswer, no_field, read_event};
 use iox2sd_common::settings::EventSettings;
 use iox2sd_common::status::Status;
 
-/// The number of a setting that C sees.
+/// The number of a setting that C sees: from 8 on in their order, but for the deadline.
 fn setting_number(setting: Setting) -> u32
     ensures { result ≡ setting_number setting }
 {
+    let place = setting as u32;
     match setting {
-        Setting::MaxSubscribers => 8,
-        Setting::MaxPublishers => 9,
-        Setting::HistorySize => 10,
-        Setting::SubscriberMaxBufferSize => 11,
-        Setting::SubscriberMaxBorrowedSamples => 12,
-        Setting::EnableSafeOverflow => 13,
-        Setting::MaxNotifiers => 14,
-        Setting::MaxListeners => 15,
-        Setting::EventIdMaxValue => 16,
         Setting::Deadline => 2,
-        Setting::NotifierCreatedEvent => 17,
-        Setting::NotifierDroppedEvent => 18,
-        Setting::NotifierDeadEvent => 19,
-        Setting::EnableSafeOverflowForRequests => 20,
-        Setting::EnableSafeOverflowForResponses => 21,
-        Setting::EnableFireAndForgetRequests => 22,
-        Setting::MaxActiveRequestsPerClient => 23,
-        Setting::MaxLoanedRequests => 24,
-        Setting::MaxResponseBufferSize => 25,
-        Setting::MaxServers => 26,
-        Setting::MaxClients => 27,
-        Setting::MaxBorrowedResponsesPerPendingResponse => 28,
-        Setting::MaxReaders => 29,
-        Setting::MaxWriters => 30,
-        Setting::MaxNodes => 31,
+        _ if place < Setting::Deadline as u32 => place + 8,
+        _ => place + 7,
     }
 }
 

@@ -1,12 +1,12 @@
 //! Whether texts are names, keys, values and paths; where they are not, which byte is wrong and
 //! why.
 ghost use Rattle.std.specs.Prelude.{◌↔◌, IsTrue};
-ghost use Rattle.iox2_texts.specs.Name.{IsName, MakesName};
+ghost use Rattle.iox2_texts.specs.Name.{IsName};
 ghost use Rattle.iox2_texts.specs.Text.{IsText};
 ghost use Rattle.iox2_texts.specs.Verify.{Misses};
-ghost use Rattle.iox2sd_values.specs.Texts.{IsLegal, Refused, ChecksText};
-ghost use Rattle.iox2sd_values.specs.Texts.{ChecksName};
-ghost use Rattle.iox2sd_values.specs.Texts.{MakesPath, MakesFileName, MakesFilePath, MakesRestricted};
+ghost use Rattle.iox2sd_values.specs.Texts.{IsLegal, Refused, ChecksName, ChecksUserName};
+ghost use Rattle.iox2sd_values.specs.Texts.{ChecksPath, ChecksFileName, ChecksFilePath};
+ghost use Rattle.iox2sd_values.specs.Texts.{ChecksRestricted};
 
 use iox2_texts::bounded::SemanticStringError;
 use iox2_texts::paths::{FileName, FilePath, Path, RestrictedFileName};
@@ -84,7 +84,7 @@ pub(super) fn is_name(bytes: &[u8], most: usize) -> bool
 
 /// Whether a text is a key, a value or a name of 1 to `most` bytes, and if not, why.
 fn check_name(text: &[u8], most: usize) -> PlaceAnswer
-    ensures { ChecksText (MakesName most text.now) Alphabet.Text most text.now result }
+    ensures { ChecksName most text.now result }
 {
     if is_name(text, most) {
         return position(Status::Done, 0);
@@ -104,7 +104,7 @@ fn check_name(text: &[u8], most: usize) -> PlaceAnswer
 /// that is not from 1 to 127 (`IllegalByte`), with the index of the first wrong byte.
 #[unsafe(no_mangle)]
 pub extern "C" fn iox2sd_internal_service_name_check_at(text: &[u8]) -> PlaceAnswer
-    ensures { ChecksText (MakesName 255 text.now) Alphabet.Text 255 text.now result }
+    ensures { ChecksName 255 text.now result }
 {
     check_name(text, 255)
 }
@@ -115,7 +115,7 @@ pub extern "C" fn iox2sd_internal_service_name_check_at(text: &[u8]) -> PlaceAns
 /// `iox2sd_internal_service_name_check` refuses.
 #[unsafe(no_mangle)]
 pub extern "C" fn iox2sd_service_name_check_at(text: &[u8]) -> PlaceAnswer
-    ensures { ChecksName text.now result }
+    ensures { ChecksUserName text.now result }
 {
     if text.starts_with(INTERNAL_SERVICE_PREFIX.as_bytes()) {
         return position(Status::ReservedPrefix, 0);
@@ -129,7 +129,7 @@ pub extern "C" fn iox2sd_service_name_check_at(text: &[u8]) -> PlaceAnswer
 /// is not from 1 to 127 (`IllegalByte`), with the index of the first wrong byte.
 #[unsafe(no_mangle)]
 pub extern "C" fn iox2sd_attribute_key_check_at(text: &[u8]) -> PlaceAnswer
-    ensures { ChecksText (MakesName 64 text.now) Alphabet.Text 64 text.now result }
+    ensures { ChecksName 64 text.now result }
 {
     check_name(text, 64)
 }
@@ -138,7 +138,7 @@ pub extern "C" fn iox2sd_attribute_key_check_at(text: &[u8]) -> PlaceAnswer
 /// key is.
 #[unsafe(no_mangle)]
 pub extern "C" fn iox2sd_attribute_value_check_at(text: &[u8]) -> PlaceAnswer
-    ensures { ChecksText (MakesName 256 text.now) Alphabet.Text 256 text.now result }
+    ensures { ChecksName 256 text.now result }
 {
     check_name(text, 256)
 }
@@ -149,7 +149,7 @@ pub extern "C" fn iox2sd_attribute_value_check_at(text: &[u8]) -> PlaceAnswer
 /// 127 (`IllegalByte`).
 #[unsafe(no_mangle)]
 pub extern "C" fn iox2sd_path_check_at(text: &[u8]) -> PlaceAnswer
-    ensures { ChecksText (MakesPath text.now) Alphabet.Text 255 text.now result }
+    ensures { ChecksPath text.now result }
 {
     match Path::new(text) {
         Ok(_) => position(Status::Done, 0),
@@ -164,7 +164,7 @@ pub extern "C" fn iox2sd_path_check_at(text: &[u8]) -> PlaceAnswer
 /// that may not stand there (`IllegalByte`), and `.` and `..` (`NoFileName`).
 #[unsafe(no_mangle)]
 pub extern "C" fn iox2sd_file_name_check_at(text: &[u8]) -> PlaceAnswer
-    ensures { ChecksText (MakesFileName text.now) Alphabet.FileName 255 text.now result }
+    ensures { ChecksFileName text.now result }
 {
     match FileName::new(text) {
         Ok(_) => position(Status::Done, 0),
@@ -180,7 +180,7 @@ pub extern "C" fn iox2sd_file_name_check_at(text: &[u8]) -> PlaceAnswer
 /// (`NoFileName`).
 #[unsafe(no_mangle)]
 pub extern "C" fn iox2sd_file_path_check_at(text: &[u8]) -> PlaceAnswer
-    ensures { ChecksText (MakesFilePath text.now) Alphabet.Text 255 text.now result }
+    ensures { ChecksFilePath text.now result }
 {
     match FilePath::new(text) {
         Ok(_) => position(Status::Done, 0),
@@ -193,7 +193,7 @@ pub extern "C" fn iox2sd_file_path_check_at(text: &[u8]) -> PlaceAnswer
 /// file is.
 #[unsafe(no_mangle)]
 pub extern "C" fn iox2sd_restricted_file_name_check_at(text: &[u8]) -> PlaceAnswer
-    ensures { ChecksText (MakesRestricted text.now) Alphabet.Restricted 64 text.now result }
+    ensures { ChecksRestricted text.now result }
 {
     match RestrictedFileName::<64>::new(text) {
         Ok(_) => position(Status::Done, 0),
