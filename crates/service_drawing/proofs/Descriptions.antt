@@ -7,7 +7,7 @@ use Rattle.iox2_config.specs.Hashing.{hash_input, pattern_word, sha1_text}
 use Rattle.iox2_config.specs.declared.config.Config.{Config}
 use Rattle.iox2_config.specs.declared.hash.input.PatternKind.{PatternKind}
 use Rattle.service_drawing.specs.Descriptions.{StopsReading, after_settings, after_service}
-use Rattle.service_drawing.specs.Lines.{IsLine, HasSameLine, Whole, Stops, Form, line_by_line, HasService, HasAttributes, HasRequirements, AreAttributes, AreRequired, GivesPair, GivesRequirement, is_plain, IsPlain, HasNoLine, Begins, no_lines, AreAlignments, IsDescribed, IsFixed, type_text, payload_text, alignments_text, type_line, payload_line, elements_line, HasOpener, opener_line, message_of, message, exchange}
+use Rattle.service_drawing.specs.Lines.{HasSameLine, Whole, Stops, Form, line_by_line, HasService, HasAttributes, HasRequirements, AreAttributes, AreRequired, GivesPair, GivesRequirement, is_plain, IsPlain, HasNoLine, Begins, no_lines, AreAlignments, IsDescribed, IsFixed, type_text, payload_text, alignments_text, type_line, payload_line, elements_line, HasOpener, opener_line, message_of, message, exchange}
 use Rattle.service_drawing.specs.Settings.{HasConfiguration, GivesSetting, AreSettings, restored}
 use Rattle.service_drawing.proofs.Forms.{Lawful, same_back, line_like, none_of_nothing, none_begins, sequence_lawful, stops_as, many_lawful, IsPart, none_like, stops_at_once, line_part, lines_after, line_lawful, then_lawful, made_lawful}
 use Rattle.service_drawing.proofs.Words.{same_pattern, line_one, same_variant}
