@@ -5,10 +5,10 @@ use Rattle.iox2_texts.specs.Name.{IsName, MakesName}
 use Rattle.iox2_texts.specs.declared.bounded.SemanticStringError.{SemanticStringError}
 use Rattle.line_streams.specs.OneWay.{before_one}
 use Rattle.line_streams.specs.Spelling.{HasNo}
-use Rattle.service_drawing.specs.Lines.{IsLine, GivesPair, AreAttributes, HasAttributes, StopsAt, Requirement, OfPair, OfKey, GivesRequirement, RequiresToo, number_required, RequiresMore, RequiresNoMore, pair_of, key_of, AreRequired, HasRequirements}
+use Rattle.service_drawing.specs.Lines.{IsLine, GivesPair, AreAttributes, HasAttributes, StopsAt, Requirement, OfPair, OfKey, GivesRequirement, RequiresToo, number_required, RequiresMore, RequiresNoMore, pair_of, key_of, AreRequired, HasRequirements, ReadMany}
 use Rattle.std.proofs.lemmas.List.Sorted.{IsPermutation-cons, IsPermutation-to_front, IsPermutation-trans, length_permutation}
 use Rattle.iox2_texts.specs.Attribute.{IsListing}
-use Rattle.service_drawing.proofs.Forms.{ReadMany, one_read, stops_at_most}
+use Rattle.service_drawing.proofs.Forms.{one_read, stops_at_most}
 use Rattle.std.proofs.lemmas.List.{append-nil}
 use Rattle.std.proofs.lemmas.List.Elements.{filter_map-append}
 use Rattle.iox2_texts.specs.Verify.{Requirements}

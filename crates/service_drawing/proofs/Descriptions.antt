@@ -7,9 +7,9 @@ use Rattle.iox2_config.specs.Hashing.{hash_input, pattern_word, sha1_text}
 use Rattle.iox2_config.specs.declared.config.Config.{Config}
 use Rattle.iox2_config.specs.declared.hash.input.PatternKind.{PatternKind}
 use Rattle.service_drawing.specs.Descriptions.{StopsReading, after_settings, after_service}
-use Rattle.service_drawing.specs.Lines.{IsLine, HasSameLine, Whole, Stops, Form, line_by_line, HasService, HasAttributes, HasRequirements, AreAttributes, AreRequired, GivesPair, GivesRequirement, is_plain, IsPlain, HasNoLine, Begins, no_lines, IsDescribed, IsFixed, type_text, payload_text, alignments_text, type_line, payload_line, elements_line, HasOpener, opener_line, message_of, message, exchange}
+use Rattle.service_drawing.specs.Lines.{HasSameLine, Whole, Stops, Form, line_by_line, HasService, HasAttributes, HasRequirements, AreAttributes, AreRequired, GivesPair, GivesRequirement, is_plain, IsPlain, HasNoLine, Begins, no_lines, AreAlignments, IsDescribed, IsFixed, type_text, payload_text, alignments_text, type_line, payload_line, elements_line, HasOpener, opener_line, message_of, message, exchange}
 use Rattle.service_drawing.specs.Settings.{HasConfiguration, GivesSetting, AreSettings, restored}
-use Rattle.service_drawing.proofs.Forms.{Lawful, same_back, line_like, lines_before, none_of_nothing, none_begins, sequence_lawful, stops_as, many_lawful, IsPart, none_like, stops_at_once, line_lawful, then_lawful, made_lawful}
+use Rattle.service_drawing.proofs.Forms.{Lawful, same_back, line_like, none_of_nothing, none_begins, sequence_lawful, stops_as, many_lawful, IsPart, none_like, stops_at_once, line_part, lines_after, line_lawful, then_lawful, made_lawful}
 use Rattle.service_drawing.proofs.Words.{same_pattern, line_one, same_variant}
 use lib.Count.{ones}
 use Rattle.std.specs.Fmt.{decimal, digits}
@@ -28,11 +28,8 @@ use Rattle.service_drawing.specs.declared.description.Exchange.TheVariants as ex
 nothing_lawful : {A : Type 0} (only : A) → Lawful [] [] (no_lines only)
 nothing_lawful only = record {
   rest = λ x y r s bytes h k. h.1 ∙ sym k.1;
-  moves = λ x rest bytes h. record {
-    texts = [];
-    lines = h.1;
-    moved = λ other whole l follows. (h.0, l);
-  };
+  moves = λ x rest bytes h.
+      record { front = []; lines = inl refl; all = sym h.1; moved = λ other follows. (h.0, refl) };
   some = (only, (refl, refl));
   stops = λ left bytes bad. absurd (bad.1 only bytes (refl, refl));
 }
@@ -93,20 +90,15 @@ opener_lawful prefix = record {
     moves : (o : Option MessageTypeDetails) (r bytes : List ℕ) → HasOpener prefix o r bytes
         → IsPart (begin ∷ []) (HasOpener prefix o) r bytes
     moves None r bytes h = record {
-      texts = [];
-      lines = h.0;
-      moved = λ other whole l follows.
-          let none : HasNoLine begin other = elim follows [
-            | inl same ↦ none_like r other begin same (rw h.0 h.1)
-            | inr none ↦ none.0
-          ] in
-          (l, rw l at none);
+      front = [];
+      lines = inl refl;
+      all = sym h.0;
+      moved = λ other follows. elim follows [
+        | inl same ↦ (refl, none_like r other begin same (rw (← h.0) at h.1))
+        | inr none ↦ (refl, none.0)
+      ];
     }
-    moves (Some d) r bytes h = record {
-      texts = (begin ++ alignments_text d) ∷ [];
-      lines = (r, h.line, refl);
-      moved = λ other whole l follows. record { line = rw l.2 l.1; legal = h.legal };
-    }
+    moves (Some d) r bytes h = line_part begin AreAlignments alignments_text d r bytes h
 
     like : (o : Option MessageTypeDetails) (r one other : List ℕ) → HasSameLine one other
         → HasOpener prefix o r one → Begins (HasOpener prefix) other
@@ -254,15 +246,14 @@ pub no_service_here : (base : Config) (bytes : List ℕ)
     → StopsReading base bytes bytes
 no_service_here base bytes none = record {
   read = [];
-  lines = refl;
+  lines = inl refl;
+  all = refl;
   more = [];
-  example = [];
-  goes_on = refl;
   begun = inr refl;
-  stops = λ other whole k same good.
+  stops = λ other same good.
       let h = good.1.service in
-      let l = line_like whole bytes (pattern_word good.0.kind ++ 32 ∷ good.0.name) good.1.rest
-      (rw k at (same_back bytes other same)) h.line in
+      let l = line_like other bytes (pattern_word good.0.kind ++ 32 ∷ good.0.name) good.1.rest
+      (same_back bytes other same) h.line in
       none good.0.kind good.0.name l.0 (record { line = l.1; named = h.named });
 }
 
@@ -276,7 +267,7 @@ filled : (left other : List ℕ) → false ≡ (length left == 0) → HasSameLin
 filled [] other more same e = cc
 filled (x ∷ xs) other more (inl same) e = let none : x ∷ xs ≡ [] = same ∙ e in cc
 filled (x ∷ xs) other more (inr s) e =
-    omega (arith, ap length (sym e ∙ s.second.spelled), length-append s.line (10 ∷ s.other_rest))
+    omega (arith, ap length (sym e ∙ s.second), length-append s.lines (10 ∷ s.other_rest))
 
 -- there nothing whole goes on
 pub broken : {A : Type 0} {ends : List (List ℕ)} {some : List ℕ} {F : Form A}
@@ -286,17 +277,15 @@ broken f left bytes (inl bad) =
     stops_as _ _ _ _ left bytes (λ b w. w) (λ b w. (w.0, [], w.1)) (f.stops left bytes bad)
 broken {ends} f left bytes (inr (x, h, more)) =
     let m = f.moves x left bytes h in
-    let before = lines_before m.texts left bytes m.lines in
     record {
-      read = m.texts;
+      read = m.front;
       lines = m.lines;
+      all = m.all;
       more = [];
-      example = before.0 ++ [];
-      goes_on = before.2 [];
-      begun = (x, m.moved [] (before.0 ++ []) (before.2 []) (inr (none_of_nothing ends)));
-      stops = λ other whole l same good.
+      begun = (x, m.moved [] (inr (none_of_nothing ends)));
+      stops = λ other same good.
           filled left other more same
-          (f.rest x good.0 other [] whole (m.moved other whole l (inl same)) good.1);
+          (f.rest x good.0 other [] (m.front ++ other) (m.moved other (inl same)) good.1);
     }
 
 -- where what follows the line of a service stops, so does a description
@@ -306,14 +295,15 @@ pub stops_behind_service : (base : Config) (k : PatternKind) (name left mid byte
 stops_behind_service base k name left mid bytes h bad =
     let s = broken (after_service_lawful base k) left mid bad in
     let text : List ℕ = pattern_word k ++ 32 ∷ name in
-    let line : IsLine text s.example (text ++ 10 ∷ s.example) =
-    record { spelled = refl; plain = h.line.plain } in
+    let spelled = append_assoc text (10 ∷ s.read) in
+    let line : (other : List ℕ) → HasService k name (s.read ++ other) ((text ++ 10 ∷ s.read)
+    ++ other) = λ other.
+    record { line = record { spelled = spelled other; plain = h.line.plain }; named = h.named } in
     record {
-      read = text ∷ s.read;
-      lines = (mid, h.line, s.lines);
+      read = text ++ 10 ∷ s.read;
+      lines = lines_after text s.read s.lines;
+      all = cc (h.line.spelled, s.all, spelled left);
       more = s.more;
-      example = text ++ 10 ∷ s.example;
-      goes_on = (s.example, line, s.goes_on);
       begun = inl (
         record {
           name = name;
@@ -325,17 +315,17 @@ stops_behind_service base k name left mid bytes h bad =
           required = s.begun.0.1.1.1;
         },
         record {
-          rest = s.example;
-          service = record { line = line; named = h.named };
+          rest = s.read ++ s.more;
+          service = line s.more;
           hash = refl;
           lines = s.begun.1;
         },
       );
-      stops = λ other whole l same good.
-          let one = service_same good.0.kind k good.0.name name good.1.rest l.0 whole
-          good.1.service (record { line = l.1; named = h.named }) in
+      stops = λ other same good.
+          let one = service_same good.0.kind k good.0.name name good.1.rest (s.read ++ other) _
+          good.1.service (line other) in
           let rest : Whole (after_service base good.0.kind).Has good.1.rest = (_, good.1.lines) in
-          s.stops other l.0 l.2 same (rw (one.0, one.1) at rest);
+          s.stops other same (rw (one.0, one.1) at rest);
     }
 
 pub no_more : (xs : List ℕ) → true ≡ (length xs == 0) → xs ≡ []

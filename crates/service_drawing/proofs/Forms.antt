@@ -1,19 +1,37 @@
 -- Forms of lines, and lines of one kind: what is true of each, and where reading stops.
-use Rattle.std.proofs.Common.{◌≡◌, ℕ, List, [], ◌∷◌, ◌++◌, ◌⊎◌, inl, inr, refl, sym, ap, subst, append_assoc, length, length-append, arith, ◌<◌, ◌≤◌, map, ◌∙◌}
-use Rattle.service_drawing.specs.Lines.{IsLine, IsPlain, AreLines, HasNoLine, HasSameLine, Begins, Whole, Stops, StopsAt, Form, HasLine, at_once, line, then, sequence, made, HasMany, UpTo, line_by_line}
-use Rattle.service_drawing.proofs.Words.{line_one, same_text}
-use Rattle.std.proofs.lemmas.List.{length-map}
+use Rattle.std.proofs.Common.{◌≡◌, ◌≢◌, ℕ, List, [], ◌∷◌, ◌++◌, ◌⊎◌, inl, inr, refl, sym, ap, subst, append_assoc, length, length-append, arith, ◌<◌, ◌≤◌, map, ◌∙◌}
+use Rattle.line_streams.specs.Numerals.{cons_same}
+use Rattle.line_streams.specs.Spelling.{HasNo}
+use Rattle.service_drawing.specs.Lines.{IsLine, IsPlain, AreLines, HasNoLine, HasSameLine, Begins, Whole, Stops, StopsAt, Form, HasLine, at_once, line, then, sequence, made, HasMany, ReadMany, UpTo, line_by_line}
+use Rattle.service_drawing.proofs.Words.{line_one, plain_lacks, same_text}
+use Rattle.std.proofs.lemmas.Bool.{cases_lt}
+use Rattle.std.proofs.lemmas.List.{append-nil, length-map}
+use Rattle.std.proofs.lemmas.List.Elements.{All-head, All-tail}
 
 pub same_back : (one other : List ℕ) → HasSameLine one other → HasSameLine other one
 same_back one other same = grind arith
+
+-- the first of the same lines
+first_line : (text lines rest more other : List ℕ) → HasNo 10 text
+    → text ++ 10 ∷ rest ≡ lines ++ 10 ∷ more
+    → (q : List ℕ) × (lines ++ 10 ∷ other ≡ text ++ 10 ∷ q)
+first_line [] [] rest more other h e = (other, refl)
+first_line [] (b ∷ lines) rest more other h e = (lines ++ 10 ∷ other, rw (cons_same e).0 refl)
+first_line (a ∷ text) [] rest more other h e =
+    absurd (All-head (λ c. c ≢ 10) a text h (cons_same e).0)
+first_line (a ∷ text) (b ∷ lines) rest more other h e =
+    let both = cons_same e in
+    let q = first_line text lines rest more other (All-tail (λ c. c ≢ 10) a text h) both.1 in
+    (q.0, cc (both.0, q.1))
 
 -- where both begin with the same line, they begin with the same lines
 pub line_like : (one other text rest : List ℕ) → HasSameLine one other → IsLine text rest one
     → (q : List ℕ) × IsLine text q other
 line_like one other text rest (inl e) l = (rest, rw e at l)
 line_like one other text rest (inr s) l =
-    let same = (line_one s.line text s.rest rest one s.first l).0 in
-    (s.other_rest, rw same at s.second)
+    let first = first_line text s.lines rest s.rest s.other_rest (plain_lacks text l.plain)
+    (sym l.spelled ∙ s.first) in
+    (first.0, record { spelled = s.second ∙ first.1; plain = l.plain })
 
 pub none_like : (one other begin : List ℕ) → HasSameLine one other → HasNoLine begin one
     → HasNoLine begin other
@@ -27,30 +45,15 @@ none_begins begin text rest l =
     omega (arith, ap length l.spelled, length-append (begin ++ text) (10 ∷ rest))
 
 -- lines, and then others
-pub lines_then : (ts us : List (List ℕ)) (mid rest bytes : List ℕ) → AreLines ts mid bytes
-    → AreLines us rest mid → AreLines (ts ++ us) rest bytes
-lines_then [] us mid rest bytes e k = rw e at k
-lines_then (t ∷ ts) us mid rest bytes l k = (l.0, l.1, lines_then ts us mid rest l.0 l.2 k)
+lines_then : (front next : List ℕ) → AreLines front → AreLines next → AreLines (front ++ next)
+lines_then front next l (inl e) = rw (e, append-nil front) l
+lines_then front next l (inr (lines, e)) =
+    inr (front ++ lines, rw e (sym (append_assoc front lines (10 ∷ []))))
 
-lines_split : (ts us : List (List ℕ)) (rest bytes : List ℕ) → AreLines (ts ++ us) rest bytes
-    → (mid : List ℕ) × AreLines ts mid bytes × AreLines us rest mid
-lines_split [] us rest bytes k = grind arith
-lines_split (t ∷ ts) us rest bytes k = grind (arith, lines_split ts us rest k.0 k.2)
-
--- the same lines before other bytes
-pub lines_before : (ts : List (List ℕ)) (rest bytes : List ℕ) → AreLines ts rest bytes
-    → (front : List ℕ) × (bytes ≡ front ++ rest)
-    × ((other : List ℕ) → AreLines ts other (front ++ other))
-lines_before [] rest bytes e = ([], sym e, λ other. refl)
-lines_before (t ∷ ts) rest bytes l =
-    let more = lines_before ts rest l.0 l.2 in
-    let spelled = append_assoc t (10 ∷ more.0) in
-    let line = l.1.spelled in (
-      t ++ 10 ∷ more.0,
-      cc (more.1, spelled rest),
-      λ other.
-          (more.0 ++ other, record { spelled = spelled other; plain = l.1.plain }, more.2 other),
-    )
+-- a line, and then others
+pub lines_after : (text next : List ℕ) → AreLines next → AreLines (text ++ 10 ∷ next)
+lines_after text next l = rw (← append_assoc text (10 ∷ []) next)
+    (lines_then (text ++ 10 ∷ []) next (inr (text, refl)) l)
 
 -- no line begins in one of these ways
 abbrev pub NoneOf : List (List ℕ) → List ℕ → Type 0
@@ -71,19 +74,31 @@ none_of_both (p ∷ ps) qs bytes n = grind (arith, none_of_both ps qs bytes n.1)
 abbrev pub MayFollow : List (List ℕ) → List ℕ → List ℕ → Type 0
 MayFollow ends rest other = HasSameLine rest other ⊎ NoneOf ends other
 
-follow_through : (ts ends : List (List ℕ)) (rest other bytes whole : List ℕ)
-    → AreLines ts rest bytes → AreLines ts other whole → MayFollow ends rest other
-    → MayFollow ends bytes whole
-follow_through [] ends rest other bytes whole e k follows = grind arith
-follow_through (t ∷ ts) ends rest other bytes whole l k follows = grind arith
+-- so may all bytes behind the same lines
+follow_same : (ends : List (List ℕ)) (front rest bytes other lines : List ℕ)
+    → front ≡ lines ++ 10 ∷ [] → bytes ≡ front ++ rest → MayFollow ends bytes (front ++ other)
+follow_same ends front rest bytes other lines is e = inl (inr (record {
+  lines = lines;
+  rest = rest;
+  other_rest = other;
+  first = rw is at e ∙ append_assoc lines (10 ∷ []) rest;
+  second = rw is (append_assoc lines (10 ∷ []) other);
+}))
+
+follow_through : (ends : List (List ℕ)) (front rest other bytes : List ℕ) → AreLines front
+    → bytes ≡ front ++ rest → MayFollow ends rest other → MayFollow ends bytes (front ++ other)
+follow_through ends front rest other bytes (inl none) e follows =
+    let same : bytes ≡ rest = rw none at e in rw (none, same) follows
+follow_through ends front rest other bytes (inr (lines, is)) e follows =
+    follow_same ends front rest bytes other lines is e
 
 -- lines stand before the rest, and would stand so before other bytes that may follow
 pub record IsPart (ends : List (List ℕ)) (Has : List ℕ → List ℕ → Type 0)
     (rest bytes : List ℕ) : Type 0 where
-  pub texts : List (List ℕ)
-  pub lines : AreLines texts rest bytes
-  pub moved : (other whole : List ℕ) → AreLines texts other whole → MayFollow ends rest other
-      → Has other whole
+  pub front : List ℕ
+  pub lines : AreLines front
+  pub all : bytes ≡ front ++ rest
+  pub moved : (other : List ℕ) → MayFollow ends rest other → Has other (front ++ other)
 
 -- What is true of each form: one rest follows it, it is read before other bytes too, there is an
 -- example, and where it fails nothing goes on.
@@ -102,15 +117,31 @@ pub stops_at_once : {A : Type 0} (Has : A → List ℕ → List ℕ → Type 0) 
     → (at_once Has).Fails left bytes → StopsAt Has left bytes
 stops_at_once Has example left bytes some like bad = record {
   read = [];
-  lines = bad.0;
+  lines = inl refl;
+  all = sym bad.0;
   more = example;
-  example = example;
-  goes_on = refl;
   begun = some;
-  stops = λ other whole e same good.
+  stops = λ other same good.
       let back = same_back bytes other (rw bad.0 at same) in
-      let here = like good.0 good.1 whole bytes (rw e at back) good.2 in
+      let here = like good.0 good.1 other bytes back good.2 in
       bad.1 here.0 here.1 here.2;
+}
+
+-- a line stands so before all bytes
+pub line_part : {A : Type 0} {ends : List (List ℕ)} (begin : List ℕ) (IsLegal : A → Type 0)
+    (text : A → List ℕ) (x : A) (rest bytes : List ℕ) → HasLine begin IsLegal text x rest bytes
+    → IsPart ends (HasLine begin IsLegal text x) rest bytes
+line_part begin IsLegal text x rest bytes h = record {
+  front = (begin ++ text x) ++ 10 ∷ [];
+  lines = inr (begin ++ text x, refl);
+  all = h.line.spelled ∙ sym (append_assoc (begin ++ text x) (10 ∷ []) rest);
+  moved = λ other follows. record {
+    line = record {
+      spelled = append_assoc (begin ++ text x) (10 ∷ []) other;
+      plain = h.line.plain;
+    };
+    legal = h.legal;
+  };
 }
 
 -- one line
@@ -119,14 +150,7 @@ pub line_lawful : {A : Type 0} (begin : List ℕ) (IsLegal : A → Type 0) (text
     → Lawful [] ((begin ++ text x) ++ 10 ∷ []) (line begin IsLegal text)
 line_lawful begin IsLegal text x legal plain = record {
   rest = λ x y r s bytes h k. (line_one _ _ r s bytes h.line k.line).1;
-  moves = λ x rest bytes h. record {
-    texts = (begin ++ text x) ∷ [];
-    lines = (rest, h.line, refl);
-    moved = λ other whole l follows. record {
-      line = subst (λ (b : List ℕ). IsLine (begin ++ text x) b whole) (sym l.2) l.1;
-      legal = h.legal;
-    };
-  };
+  moves = λ x rest bytes h. line_part begin IsLegal text x rest bytes h;
   some = some;
   stops = λ left bytes bad.
       stops_at_once (HasLine begin IsLegal text) ((begin ++ text x) ++ 10 ∷ []) left bytes some
@@ -152,20 +176,16 @@ made_lawful {F} make f = record {
   moves = λ y r bytes h.
       let m = f.moves h.0 r bytes h.2 in
       record {
-        texts = m.texts;
+        front = m.front;
         lines = m.lines;
-        moved = λ other whole l follows. (h.0, h.1, m.moved other whole l follows);
+        all = m.all;
+        moved = λ other follows. (h.0, h.1, m.moved other follows);
       };
   some = (make f.some.0, (f.some.0, refl, f.some.1));
   stops = λ left bytes bad.
       stops_as _ _ _ _ left bytes (λ b w. (make w.0, (w.0, refl, w.1)))
       (λ b g. (g.2.0, g.1, g.2.2)) (f.stops left bytes bad);
 }
-
--- lines before more bytes
-lines_append : (ts : List (List ℕ)) (rest bytes end : List ℕ) → AreLines ts rest bytes
-    → AreLines ts (rest ++ end) (bytes ++ end)
-lines_append ts rest bytes end l = grind (arith, lines_before, append_assoc)
 
 -- one, and then another: what may end the first does not begin the example of the other
 pub then_lawful : {A K B : Type 0} {ps qs : List (List ℕ)} {first : List ℕ} {next : K → List ℕ}
@@ -175,20 +195,22 @@ pub then_lawful : {A K B : Type 0} {ps qs : List (List ℕ)} {first : List ℕ} 
     → ((x : A) → F.Has x [] first → key x ≡ j) → ((i : K) → NoneOf ps (next i))
     → Lawful (ps ++ qs) (first ++ next j) (then F key G)
 then_lawful {A} {K} {B} {ps} {qs} {first} {next} {F} {key} {G} j f g tells known apart = record {
-  rest = one;
+  rest = λ p q r s bytes h k.
+      (g (key q.0)).rest p.1 q.1 r s k.0 (again p.0 q.0 p.1 r h.0 k.0 bytes h.1 k.1 h.2) k.2;
   moves = λ p r bytes h.
       let m = f.moves p.0 h.0 bytes h.1 in
       let n = (g (key p.0)).moves p.1 r h.0 h.2 in
       record {
-        texts = m.texts ++ n.texts;
-        lines = lines_then m.texts n.texts h.0 r bytes m.lines n.lines;
-        moved = λ other whole l follows.
-            let split = lines_split m.texts n.texts other whole l in
-            let each = both r other follows in (
-              split.0,
-              m.moved split.0 whole split.1
-                  (follow_through n.texts ps r other h.0 split.0 n.lines split.2 each.0),
-              n.moved other split.0 split.2 each.1,
+        front = m.front ++ n.front;
+        lines = lines_then m.front n.front m.lines n.lines;
+        all = m.all ∙ ap (λ b. m.front ++ b) n.all ∙ sym (append_assoc m.front n.front r);
+        moved = λ other follows.
+            let each = both r other follows in
+            rw (append_assoc m.front n.front other) (
+              n.front ++ other,
+              m.moved (n.front ++ other)
+                  (follow_through ps n.front r other h.0 n.lines n.all each.0),
+              n.moved other each.1,
             );
       };
   some = subst (λ (i : K). Whole (then F key G).Has (first ++ next i)) (known f.some.0 f.some.1)
@@ -211,23 +233,13 @@ then_lawful {A} {K} {B} {ps} {qs} {first} {next} {F} {key} {G} j f g tells known
     again x y b r mid at whole h k has =
         rw (f.rest x y mid at whole h k, tells x y mid at whole h k) at has
 
-    one : (p q : A × B) (r s bytes : List ℕ) → (then F key G).Has p r bytes
-        → (then F key G).Has q s bytes → r ≡ s
-    one p q r s bytes h k =
-        (g (key q.0)).rest p.1 q.1 r s k.0 (again p.0 q.0 p.1 r h.0 k.0 bytes h.1 k.1 h.2) k.2
-
     followed : (x : A) (b : List ℕ) → F.Has x [] b → Whole (then F key G).Has (b ++ next (key x))
     followed x b h =
         let m = f.moves x [] b h in
         let end : List ℕ = next (key x) in
-        let some = (g (key x)).some in (
-          (x, some.0),
-          (
-            end,
-            m.moved end (b ++ end) (lines_append m.texts [] b end m.lines) (inr (apart (key x))),
-            some.1,
-          ),
-        )
+        let some = (g (key x)).some in
+        let is : b ≡ m.front = m.all ∙ append-nil m.front in
+        ((x, some.0), (end, rw is (m.moved end (inr (apart (key x)))), some.1))
 
     stops_first : (left bytes : List ℕ) → F.Fails left bytes
         → StopsAt (then F key G).Has left bytes
@@ -237,60 +249,44 @@ then_lawful {A} {K} {B} {ps} {qs} {first} {next} {F} {key} {G} j f g tells known
         record {
           read = s.read;
           lines = s.lines;
+          all = s.all;
           more = s.more ++ end;
-          example = s.example ++ end;
-          goes_on = lines_append s.read s.more s.example end s.goes_on;
-          begun = followed s.begun.0 s.example s.begun.1;
-          stops = λ other whole l same good.
-              s.stops other whole l same (good.0.0, good.2.0, good.2.1);
+          begun = rw (← append_assoc s.read s.more end)
+              (followed s.begun.0 (s.read ++ s.more) s.begun.1);
+          stops = λ other same good. s.stops other same (good.0.0, good.2.0, good.2.1);
         }
 
     -- more that goes on with the lines that were read, and may follow the first
-    goes : (i : K) (read : List (List ℕ)) (left mid more example : List ℕ)
-        → AreLines read left mid → AreLines read more example → Whole (G i).Has example
-        → (m : List ℕ) × (b : List ℕ) × AreLines read m b × Whole (G i).Has b × MayFollow ps mid b
-    goes i [] left mid more example l k w =
-        (next i, next i, refl, (g i).some, inr (apart i))
-    goes i (t ∷ ts) left mid more example l k w = (
-      more,
-      example,
-      k,
-      w,
-      inl (inr (record {
-        line = t;
-        rest = l.0;
-        other_rest = k.0;
-        first = l.1;
-        second = k.1;
-      })),
-    )
+    goes : (i : K) (read left mid more : List ℕ) → AreLines read → mid ≡ read ++ left
+        → Whole (G i).Has (read ++ more)
+        → (m : List ℕ) × Whole (G i).Has (read ++ m) × MayFollow ps mid (read ++ m)
+    goes i read left mid more (inl none) e w =
+        (next i, rw none (g i).some, rw none (inr (apart i)))
+    goes i read left mid more (inr (lines, is)) e w =
+        (more, w, follow_same ps read left mid more lines is e)
 
     stops_second : (x : A) (mid left bytes : List ℕ) → F.Has x mid bytes
         → (G (key x)).Fails left mid → StopsAt (then F key G).Has left bytes
     stops_second x mid left bytes h bad =
         let s = (g (key x)).stops left mid bad in
         let m = f.moves x mid bytes h in
-        let before = lines_before m.texts mid bytes m.lines in
-        let e = goes (key x) s.read left mid s.more s.example s.lines s.goes_on s.begun in
+        let e = goes (key x) s.read left mid s.more s.lines s.all s.begun in
         record {
-          read = m.texts ++ s.read;
-          lines = lines_then m.texts s.read mid left bytes m.lines s.lines;
+          read = m.front ++ s.read;
+          lines = lines_then m.front s.read m.lines s.lines;
+          all = m.all ∙ ap (λ b. m.front ++ b) s.all ∙ sym (append_assoc m.front s.read left);
           more = e.0;
-          example = before.0 ++ e.1;
-          goes_on = lines_then m.texts s.read e.1 e.0 (before.0 ++ e.1) (before.2 e.1) e.2;
-          begun = (
-            (x, e.3.0),
-            (e.1, m.moved e.1 (before.0 ++ e.1) (before.2 e.1) e.4, e.3.1),
-          );
-          stops = λ other whole l same good.
-              let split = lines_split m.texts s.read other whole l in
-              let has : F.Has x split.0 whole =
-              m.moved split.0 whole split.1
-              (follow_through s.read ps left other mid split.0 s.lines split.2 (inl same)) in
-              s.stops other split.0 split.2 same (
-                good.0.1,
-                good.1,
-                again good.0.0 x good.0.1 good.1 good.2.0 split.0 whole good.2.1 has good.2.2,
+          begun = rw (append_assoc m.front s.read e.0)
+              ((x, e.1.0), (s.read ++ e.0, m.moved (s.read ++ e.0) e.2, e.1.1));
+          stops = λ other same good.
+              let whole = rw (append_assoc m.front s.read other) at good in
+              let has = m.moved (s.read ++ other)
+              (follow_through ps s.read left other mid s.lines s.all (inl same)) in
+              s.stops other same (
+                whole.0.1,
+                whole.1,
+                again whole.0.0 x whole.0.1 whole.1 whole.2.0 (s.read ++ other)
+                    (m.front ++ (s.read ++ other)) whole.2.1 has whole.2.2,
               );
         }
 
@@ -309,131 +305,143 @@ more_lines begin Spells (y ∷ xs) x text at next bytes u l spelled =
     (u.0, u.1, u.2, u.3, more_lines begin Spells xs x text at next u.0 u.4 l spelled)
 
 -- the lines up to an offset, as they would stand before other bytes too
-pub up_lines : {A : Type 0} (begin : List ℕ) (Spells : A → List ℕ → Type 0) (xs : List A)
+pub up_part : {A : Type 0} (begin : List ℕ) (Spells : A → List ℕ → Type 0) (xs : List A)
     (at bytes : List ℕ) → UpTo begin Spells xs at bytes
-    → (texts : List (List ℕ)) × AreLines texts at bytes
-    × ((other whole : List ℕ) → AreLines texts other whole → UpTo begin Spells xs other whole)
-up_lines begin Spells [] at bytes e = ([], sym e, λ other whole l. sym l)
-up_lines begin Spells (x ∷ xs) at bytes u =
-    let more = up_lines begin Spells xs at u.0 u.4 in (
-      (begin ++ u.1) ∷ more.0,
-      (u.0, u.2, more.1),
-      λ other whole l. (l.0, u.1, l.1, u.3, more.2 other l.0 l.2),
-    )
+    → IsPart [] (UpTo begin Spells xs) at bytes
+up_part begin Spells [] at bytes e =
+    record { front = []; lines = inl refl; all = e; moved = λ other follows. refl }
+up_part begin Spells (x ∷ xs) at bytes u =
+    let more = up_part begin Spells xs at u.0 u.4 in
+    let spelled = append_assoc (begin ++ u.1) (10 ∷ more.front) in
+    record {
+      front = (begin ++ u.1) ++ 10 ∷ more.front;
+      lines = lines_after (begin ++ u.1) more.front more.lines;
+      all = cc (u.2.spelled, more.all, spelled at);
+      moved = λ other follows. (
+        more.front ++ other,
+        u.1,
+        record { spelled = spelled other; plain = u.2.plain },
+        u.3,
+        more.moved other follows,
+      );
+    }
 
 pub line_within : (text rest bytes : List ℕ) → IsLine text rest bytes → length rest < length bytes
 line_within text rest bytes l = grind (arith, length-append, l.spelled)
 
-pub texts_within : (texts : List (List ℕ)) (at bytes : List ℕ) → AreLines texts at bytes
-    → length at ≤ length bytes
-texts_within [] at bytes e = grind arith
-texts_within (t ∷ ts) at bytes l = grind (arith, line_within, texts_within ts at l.0 l.2)
-
 up_within : {A : Type 0} (begin : List ℕ) (Spells : A → List ℕ → Type 0) (xs : List A)
     (at bytes : List ℕ) → UpTo begin Spells xs at bytes → length at ≤ length bytes
-up_within begin Spells xs at bytes u = grind (arith, up_lines, texts_within)
+up_within begin Spells xs at bytes u =
+    let part = up_part begin Spells xs at bytes u in
+    omega (arith, ap length part.all, length-append part.front at)
 
--- two lists that give a text after the same lines: the second goes on with one that gives it, and
--- both give the same keys before
-pub record GoesOn {A K : Type 0} (Spells : A → List ℕ → Type 0) (key : A → K) (xs ys : List A)
-    (text rest at : List ℕ) : Type 0 where
-  pub one : A
-  pub more : List A
-  pub spelled : Spells one text
-  pub keys : map key ys ≡ map key xs ++ key one ∷ map key more
-  pub within : length rest < length at
-
-pub goes_on : {A K : Type 0} (begin : List ℕ) (Spells : A → List ℕ → Type 0) (key : A → K)
+-- what follows the first lines of more lines
+pub more_follow : {A K : Type 0} (begin : List ℕ) (Spells : A → List ℕ → Type 0) (key : A → K)
     → ((x y : A) (t : List ℕ) → Spells x t → Spells y t → key x ≡ key y) → (xs ys : List A)
-    (at rest bytes text tail : List ℕ) → UpTo begin Spells xs at bytes
-    → IsLine (begin ++ text) tail at → UpTo begin Spells ys rest bytes → HasNoLine begin rest
-    → GoesOn Spells key xs ys text rest at
-goes_on begin Spells key same [] [] at rest bytes text tail e l h none =
-    absurd (none text tail (rw (sym e ∙ h) at l))
-goes_on begin Spells key same [] (y ∷ ys) at rest bytes text tail e l h none = record {
-  one = y;
-  more = ys;
-  spelled = rw (same_text begin h.1 h.0 bytes h.2 text tail (rw e l)) at h.3;
-  keys = refl;
-  within = omega (
-    arith,
-    ap length e,
-    line_within (begin ++ h.1) h.0 bytes h.2,
-    up_within begin Spells ys rest h.0 h.4,
-  );
-}
-goes_on begin Spells key same (x ∷ xs) [] at rest bytes text tail u l h none =
-    absurd (none u.1 u.0 (rw h at u.2))
-goes_on begin Spells key same (x ∷ xs) (y ∷ ys) at rest bytes text tail u l h none =
-    let texts = same_text begin h.1 h.0 bytes h.2 u.1 u.0 u.2 in
-    let mids = (line_one _ _ h.0 u.0 bytes h.2 u.2).1 in
-    let more =
-    goes_on begin Spells key same xs ys at rest u.0 text tail u.4 l (rw mids at h.4) none in
-    let keys = same y x u.1 (rw texts at h.3) u.3 in
-    record {
-      one = more.one;
-      more = more.more;
-      spelled = more.spelled;
-      keys = rw (keys, more.keys) refl;
-      within = more.within;
-    }
+    (at rest bytes : List ℕ) → UpTo begin Spells xs at bytes → UpTo begin Spells ys rest bytes
+    → length rest ≤ length at
+    → (more : List A) × UpTo begin Spells more rest at × (map key ys ≡ map key (xs ++ more))
+more_follow begin Spells key same [] ys at rest bytes u v far = (ys, rw u at v, refl)
+more_follow begin Spells key same (x ∷ xs) [] at rest bytes u v far = absurd (omega (
+  arith,
+  ap length v,
+  line_within (begin ++ u.1) u.0 bytes u.2,
+  up_within begin Spells xs at u.0 u.4,
+))
+more_follow begin Spells key same (x ∷ xs) (y ∷ ys) at rest bytes u v far =
+    let texts = same_text begin v.1 v.0 bytes v.2 u.1 u.0 u.2 in
+    let mids = (line_one _ _ v.0 u.0 bytes v.2 u.2).1 in
+    let keys = same y x u.1 (rw texts at v.3) u.3 in
+    let more = more_follow begin Spells key same xs ys at rest u.0 u.4 (rw mids at v.4) far in
+    (more.0, more.1, rw (keys, more.2) refl)
+
+-- none follow where no line of the kind does
+pub none_follow : {A : Type 0} (begin : List ℕ) (Spells : A → List ℕ → Type 0) (more : List A)
+    (rest at : List ℕ) → UpTo begin Spells more rest at → HasNoLine begin at → at ≡ rest
+none_follow begin Spells [] rest at u none = u
+none_follow begin Spells (x ∷ xs) rest at u none = absurd (none u.1 u.0 u.2)
 
 -- the key of lines that are only counted
 abbrev pub no_key : {A : Type 0} → A → Unit {0}
 no_key x = tt
 
--- where neither list goes on before the end of the other, both end at once, with the same keys
-pub same_lines : {A K : Type 0} (begin : List ℕ) (Spells : A → List ℕ → Type 0) (key : A → K)
+-- the second list goes on after the first with one that the text gives
+pub record GoesOn {A K : Type 0} (Spells : A → List ℕ → Type 0) (key : A → K) (xs ys : List A)
+    (text : List ℕ) : Type 0 where
+  pub one : A
+  pub more : List A
+  pub spelled : Spells one text
+  pub keys : map key ys ≡ map key (xs ++ one ∷ more)
+
+-- where a line follows, all lines of its kind go on with it
+goes_on : {A K : Type 0} (begin : List ℕ) (Spells : A → List ℕ → Type 0) (key : A → K)
     → ((x y : A) (t : List ℕ) → Spells x t → Spells y t → key x ≡ key y) → (xs ys : List A)
-    (r s bytes : List ℕ) → UpTo begin Spells xs r bytes → UpTo begin Spells ys s bytes
-    → ((t m : List ℕ) → IsLine (begin ++ t) m r → length m < length s)
-    → ((t m : List ℕ) → IsLine (begin ++ t) m s → length m < length r)
-    → (r ≡ s) × (map key xs ≡ map key ys)
-same_lines begin Spells key same [] [] r s bytes u v p q = (sym u ∙ v, refl)
-same_lines begin Spells key same [] (y ∷ ys) r s bytes u v p q =
-    absurd (omega (arith, p v.1 v.0 (rw u at v.2), up_within begin Spells ys s v.0 v.4))
-same_lines begin Spells key same (x ∷ xs) [] r s bytes u v p q =
-    absurd (omega (arith, q u.1 u.0 (rw v at u.2), up_within begin Spells xs r u.0 u.4))
-same_lines begin Spells key same (x ∷ xs) (y ∷ ys) r s bytes u v p q =
-    let texts = same_text begin u.1 u.0 bytes u.2 v.1 v.0 v.2 in
-    let mids = (line_one _ _ v.0 u.0 bytes v.2 u.2).1 in
-    let keys = same x y v.1 (rw texts at u.3) v.3 in
-    let more = same_lines begin Spells key same xs ys r s u.0 u.4 (rw mids at v.4) p q in
-    (more.0, rw (keys, more.1) refl)
+    (at rest bytes text tail : List ℕ) → UpTo begin Spells xs at bytes
+    → IsLine (begin ++ text) tail at → UpTo begin Spells ys rest bytes → HasNoLine begin rest
+    → GoesOn Spells key xs ys text
+goes_on {A} {K} begin Spells key same xs ys at rest bytes text tail u l v none =
+    elim (cases_lt (length at) (length rest)) [
+      | inl far ↦
+          let back = more_follow begin Spells key same ys xs rest at bytes v u (omega arith) in
+          let end = none_follow begin Spells back.0 at rest back.1 none in
+          absurd (none text tail (rw (← end) at l))
+      | inr near ↦ here (more_follow begin Spells key same xs ys at rest bytes u v near)
+    ]
+  where
+    here : (more : List A) × UpTo begin Spells more rest at × (map key ys ≡ map key (xs ++ more))
+        → GoesOn Spells key xs ys text
+    here ([], e, keys) = absurd (none text tail (rw e at l))
+    here (x ∷ more, w, keys) = record {
+      one = x;
+      more = more;
+      spelled = rw (same_text begin w.1 w.0 at w.2 text tail l) at w.3;
+      keys = keys;
+    }
 
 -- all lines of a kind, of which a value is made
 pub many_lawful : {A B : Type 0} (begin : List ℕ) (Spells : A → List ℕ → Type 0)
     (Make : List A → B → Type 0) (x : B) → Make [] x
     → Lawful (begin ∷ []) [] (line_by_line (HasMany begin Spells Make))
-many_lawful begin Spells Make x none = record {
+many_lawful {A} {B} begin Spells Make x none = record {
   rest = λ x y r s bytes h k.
-      (same_lines begin Spells no_key (λ x y t p q. refl) h.each k.each r s bytes h.lines k.lines
-      (λ t m l. absurd (h.ends t m l)) (λ t m l. absurd (k.ends t m l))).0;
+      elim (cases_lt (length r) (length s)) [
+        | inl far ↦ sym (end x y r s bytes h k (omega arith))
+        | inr near ↦ end y x s r bytes k h near
+      ];
   moves = λ y rest bytes h.
-      let lines = up_lines begin Spells h.each rest bytes h.lines in
+      let part = up_part begin Spells h.read.each rest bytes h.read.lines in
       record {
-        texts = lines.0;
-        lines = lines.1;
-        moved = λ other whole l follows. record {
-          each = h.each;
-          lines = lines.2 other whole l;
+        front = part.front;
+        lines = part.lines;
+        all = part.all;
+        moved = λ other follows. record {
+          read = record {
+            each = h.read.each;
+            lines = part.moved other (inr tt);
+            make = h.read.make;
+          };
           ends = elim follows [
             | inl same ↦ none_like rest other begin same h.ends
             | inr none ↦ none.0
           ];
-          make = h.make;
         };
       };
-  some = (x, record { each = []; lines = refl; ends = none_begins begin; make = none });
+  some = (
+    x,
+    record {
+      read = record { each = []; lines = refl; make = none };
+      ends = none_begins begin;
+    },
+  );
   stops = λ left bytes s. s;
 }
-
--- the lines that were read, of which a value is made so far
-pub record ReadMany {A B : Type 0} (begin : List ℕ) (Spells : A → List ℕ → Type 0)
-    (Make : List A → B → Type 0) (x : B) (at bytes : List ℕ) : Type 0 where
-  pub each : List A
-  pub lines : UpTo begin Spells each at bytes
-  pub make : Make each x
+  where
+    end : (x y : B) (r s bytes : List ℕ) → HasMany begin Spells Make x r bytes
+        → HasMany begin Spells Make y s bytes → length r ≤ length s → s ≡ r
+    end x y r s bytes h k far =
+        let more = more_follow begin Spells no_key (λ x y t p q. refl) k.read.each h.read.each s r
+        bytes k.read.lines h.read.lines far in
+        none_follow begin Spells more.0 r s more.1 k.ends
 
 -- one more was read
 abbrev pub one_read : {A B : Type 0} (begin : List ℕ) (Spells : A → List ℕ → Type 0)
@@ -446,45 +454,34 @@ one_read begin Spells Make x y at next bytes text a r l spelled make = record {
   make = make;
 }
 
--- all were read
-pub all_read : {A B : Type 0} (begin : List ℕ) (Spells : A → List ℕ → Type 0)
-    (Make : List A → B → Type 0) (x : B) (at bytes : List ℕ)
-    → ReadMany begin Spells Make x at bytes → HasNoLine begin at
-    → HasMany begin Spells Make x at bytes
-all_read begin Spells Make x at bytes r none = search
-
 -- where no value is made of lines that go on with the next one, they stop
 pub many_stops : {A B K : Type 0} (begin : List ℕ) (Spells : A → List ℕ → Type 0)
     (Make : List A → B → Type 0) (key : A → K)
     → ((x y : A) (t : List ℕ) → Spells x t → Spells y t → key x ≡ key y)
     → (x : B) (at bytes text tail : List ℕ) (r : ReadMany begin Spells Make x at bytes)
     → IsLine (begin ++ text) tail at
-    → ((ys : List A) (y : B) (rest other : List ℕ) → Make ys y
-    → GoesOn Spells key r.each ys text rest other → ⊥)
+    → ((ys : List A) (y : B) → Make ys y → GoesOn Spells key r.each ys text → ⊥)
     → StopsAt (HasMany begin Spells Make) at bytes
 many_stops begin Spells Make key same x at bytes text tail r l bad =
-    let lines = up_lines begin Spells r.each at bytes r.lines in
-    let before = lines_before lines.0 at bytes lines.1 in
+    let part = up_part begin Spells r.each at bytes r.lines in
     record {
-      read = lines.0;
-      lines = lines.1;
+      read = part.front;
+      lines = part.lines;
+      all = part.all;
       more = [];
-      example = before.0 ++ [];
-      goes_on = before.2 [];
       begun = (
         x,
         record {
-          each = r.each;
-          lines = lines.2 [] (before.0 ++ []) (before.2 []);
+          read = record { each = r.each; lines = part.moved [] (inr tt); make = r.make };
           ends = none_begins begin;
-          make = r.make;
         },
       );
-      stops = λ other whole k like good.
+      stops = λ other like good.
           let next = line_like at other (begin ++ text) tail like l in
-          bad good.2.each good.0 good.1 other good.2.make
-          (goes_on begin Spells key same r.each good.2.each other good.1 whole text next.0
-          (lines.2 other whole k) next.1 good.2.lines good.2.ends);
+          let many = good.2.read in
+          bad many.each good.0 many.make
+          (goes_on begin Spells key same r.each many.each other good.1 (part.front ++ other) text
+          next.0 (part.moved other (inr tt)) next.1 many.lines good.2.ends);
     }
 
 -- lines of which at most so many make a value stop where the next one is one too many, or gives
@@ -496,7 +493,7 @@ pub stops_at_most : {A B : Type 0} (begin : List ℕ) (Spells : A → List ℕ �
     → StopsAt (HasMany begin Spells Make) at bytes
 stops_at_most begin Spells Make most few x at bytes text tail r l bad =
     many_stops begin Spells Make no_key (λ x y t p q. refl) x at bytes text tail r l
-    (λ ys y rest other made next. elim bad [
+    (λ ys y made next. elim bad [
       | inl full ↦ grind (arith, length-map, length-append, next.keys, few ys y made)
       | inr none ↦ none next.one next.spelled
     ])

@@ -1,5 +1,5 @@
 -- The lines of settings, and the reason for which a line is bad.
-use Rattle.std.proofs.Common.{◌≡◌, ◌≢◌, ℕ, ◌<◌, ◌≤◌, ◌∷◌, ◌++◌, List, Bool, false, length, get_or, ap, Some, None, slice_get, subst, sym, ◌∙◌, arith, zero, suc, replicate, true, [], inl, inr, codes, map, nat_eq, slice_set, refl}
+use Rattle.std.proofs.Common.{◌≡◌, ◌≢◌, ℕ, ◌<◌, ◌≤◌, ◌∷◌, ◌++◌, List, Bool, false, length, get_or, ap, Some, None, slice_get, subst, sym, ◌∙◌, arith, zero, suc, replicate, true, [], inl, inr, codes, map, nat_eq, slice_set, refl, length-append}
 use Rattle.std.proofs.lemmas.Option.{none-some, slice_get_within, slice_get_cases, slice_get-get_or}
 use Rattle.service_drawing.specs.Settings.{HasName, IsSetting, IsNamed, word_of, MayBecome, Assignment, GivesSetting, assigned, AreSettings, Sets, NamesMarked, IsNotSet, value_text, HasConfiguration, restored, setting_names, setting_values}
 use Rattle.service_drawing.proofs.Words.{longer, same_text, line_one, same_pattern}
@@ -10,11 +10,11 @@ use Rattle.std.proofs.lemmas.Cmp.{nat_eq_equiv}
 use Rattle.std.proofs.lemmas.List.{append_cancel_left, map-append}
 use Rattle.std.proofs.lemmas.List.Folds.{list_any-append}
 use Rattle.std.proofs.lemmas.Map.Keys.{IsDistinct-push}
-use Rattle.service_drawing.specs.Lines.{IsLine, StopsAt, HasService, IsInternal, IsNoService}
+use Rattle.service_drawing.specs.Lines.{IsLine, StopsAt, HasService, IsInternal, IsNoService, ReadMany}
 use Rattle.service_drawing.specs.declared.reading.cause.Reason.{Reason}
 use Rattle.service_drawing.specs.declared.reading.cause.Reason.TheVariants.{InternalName, UnknownSetting, SetTwice, OtherForm}
 use Rattle.service_drawing.specs.declared.settings.Value.{Value}
-use Rattle.service_drawing.proofs.Forms.{ReadMany, one_read, many_stops, GoesOn, goes_on, no_key, same_lines, line_within, texts_within}
+use Rattle.service_drawing.proofs.Forms.{one_read, many_stops, GoesOn, no_key, more_follow, none_follow}
 use Rattle.iox2_config.specs.declared.config.Config.{Config}
 use Rattle.iox2_config.specs.declared.config.defaults.Defaults.{Defaults}
 use Rattle.iox2_config.specs.declared.hash.input.PatternKind.{PatternKind}
@@ -242,18 +242,19 @@ setting_refused base k c given reason at bytes text tail r l bad = (
         at (r.marks m.index mark m.marked)
 
     not_set : (why : Reason) → IsNotSet k c.defaults given text why → (all : List Assignment)
-        (other : Config) (rest whole : List ℕ) → AreSettings base k all other
-        → GoesOn (GivesSetting k base.defaults) (λ set. set.index) sets all text rest whole → ⊥
-    not_set InternalName b all other rest whole made next = b
-    not_set UnknownSetting b all other rest whole made next =
+        (other : Config) → AreSettings base k all other
+        → GoesOn (GivesSetting k base.defaults) (λ set. set.index) sets all text → ⊥
+    not_set InternalName b all other made next = b
+    not_set UnknownSetting b all other made next =
         b.1 next.one.index next.spelled.setting.named
-    not_set SetTwice b all other rest whole made next =
+    not_set SetTwice b all other made next =
+        let split = map-append (λ (set : Assignment). set.index) sets (next.one ∷ next.more) in
         let once : IsDistinct nat_eq (numbers sets ++ next.one.index ∷ numbers next.more) =
-        subst (IsDistinct nat_eq) next.keys made.0 in
+        subst (IsDistinct nat_eq) (next.keys ∙ split) made.0 in
         let fresh = earlier_differ (numbers sets) (numbers next.more) next.one.index once in
         let marked = mark_of true b.1 next.one.index next.spelled.setting in
         cc
-    not_set OtherForm b all other rest whole made next =
+    not_set OtherForm b all other made next =
         elim b.0 [
           | inl none ↦ no_value_follows k base.defaults text none next.one next.spelled
           | inr m ↦
@@ -277,12 +278,14 @@ setting_refused base k c given reason at bytes text tail r l bad = (
     was_set : NamesMarked k given text false → ¬ WasSet base k at bytes
     was_set m w =
         let fresh = mark_of false m w.index (rw (one w.at) at w.setting) in
-        let keys =
-        same_lines (codes "set ") (GivesSetting k base.defaults) (λ set. set.index)
+        let more =
+        more_follow (codes "set ") (GivesSetting k base.defaults) (λ set. set.index)
         (same_setting k base.defaults) w.at.sets sets at at bytes w.at.before r.read.lines
-        (λ t m l. line_within _ m at l) (λ t m l. line_within _ m at l) in
-        let before = w.before in
-        let same = keys.1 in
+        (omega arith) in
+        let any = rw w.before at
+        (list_any-append (nat_eq w.index) (numbers w.at.sets) (numbers more.0)) in
+        let split = map-append (λ (set : Assignment). set.index) w.at.sets more.0 in
+        let same = more.2 in
         cc
 
     among : {Holds : PatternKind → List ℕ → List ℕ → Type 0} (name before : List ℕ)
@@ -341,9 +344,12 @@ pub stops_behind_settings : (base : Config) (reason : Reason) (k : PatternKind) 
 stops_behind_settings base reason k name c left rest mid bytes e h g bad =
     let s = broken (after_settings_lawful k) left rest bad in
     let late : AtSetting base k left mid → ⊥ = λ a.
-    let next = goes_on (codes "set ") (GivesSetting k base.defaults) no_key (λ x y t p q. refl)
-    a.sets g.each left rest mid a.text a.rest a.before a.line g.lines g.ends in
-    omega (arith, next.within, texts_within s.read left rest s.lines) in
+    let more = more_follow (codes "set ") (GivesSetting k base.defaults) no_key (λ x y t p q. refl)
+    g.read.each a.sets rest left mid g.read.lines a.before
+    (omega (arith, ap length s.all, length-append s.read left)) in
+    let end = none_follow (codes "set ") (GivesSetting k base.defaults) more.0 left rest more.1
+    g.ends in
+    g.ends a.text a.rest (rw (← end) at a.line) in
     let form = other_form base k name left mid bytes h (λ u. late u.at) (λ w. late w.at) in (
       stops_behind_service base k name left mid bytes h (elim bad [
         | inl fails ↦ inl (inr (c, rest, g, fails))

@@ -1,11 +1,11 @@
 -- Lines, names, numbers and the lines of a message, in one way.
-use Rattle.std.proofs.Common.{◌≡◌, ◌≢◌, ℕ, ◌<◌, ◌^◌, List, [], ◌∷◌, ◌++◌, length, arith, sym, ◌∙◌, ap, subst, append_assoc, length-append, rules, ◌≤◌, cond, codes, Option, Some, None, Err, refl, IsTrue, Bool, true, false, MatchBool, nat_eq}
+use Rattle.std.proofs.Common.{◌≡◌, ℕ, ◌<◌, ◌^◌, List, [], ◌∷◌, ◌++◌, length, arith, sym, ◌∙◌, ap, subst, length-append, rules, ◌≤◌, cond, codes, Option, Some, None, Err, refl, IsTrue, Bool, true, false, MatchBool, nat_eq}
 use Rattle.std.specs.Fmt.{decimal}
 use Rattle.std.proofs.lemmas.List.{append_cancel_left}
 use Rattle.line_streams.specs.Numerals.{cons_same}
 use Rattle.line_streams.specs.OneWay.{after_one, before_one, number_one, sequence_one}
 use Rattle.line_streams.specs.Spelling.{EndsNumber, HasNo, OneWay, Spelling, after, number, sequence}
-use Rattle.service_drawing.specs.Lines.{IsPlain, IsLine, HasNoLine, HasLine, HasOpener, IsDescribed, AreAlignments, type_text, alignments_text, variant_word, MayBeNamed, IsInternal, HasService}
+use Rattle.service_drawing.specs.Lines.{IsPlain, IsLine, HasLine, HasOpener, IsDescribed, AreAlignments, type_text, alignments_text, variant_word, MayBeNamed, IsInternal}
 use Rattle.std.specs.Prelude.{◌==◌}
 use Rattle.std.specs.Int.{is_power_of_two}
 use Rattle.std.proofs.lemmas.Fmt.{decimal_injective}

@@ -43,13 +43,13 @@ pub record IsLine (text rest bytes : List ℕ) : Type 0 where
 abbrev pub HasNoLine : List ℕ → List ℕ → Type 0
 HasNoLine begin bytes = (text rest : List ℕ) → ¬ IsLine (begin ++ text) rest bytes
 
--- both begin with the same line
+-- both begin with the same lines, one or more
 pub record BeginAlike (one other : List ℕ) : Type 0 where
-  pub line : List ℕ
+  pub lines : List ℕ
   pub rest : List ℕ
   pub other_rest : List ℕ
-  pub first : IsLine line rest one
-  pub second : IsLine line other_rest other
+  pub first : one ≡ lines ++ 10 ∷ rest
+  pub second : other ≡ lines ++ 10 ∷ other_rest
 
 -- both are the same, or begin with the same line
 abbrev pub HasSameLine : List ℕ → List ℕ → Type 0
@@ -63,23 +63,19 @@ Begins {A} Has bytes = (x : A) × (rest : List ℕ) × Has x rest bytes
 abbrev pub Whole : {A : Type 0} → (A → List ℕ → List ℕ → Type 0) → List ℕ → Type 0
 Whole {A} Has bytes = (x : A) × Has x [] bytes
 
--- the bytes begin with these lines, up to what is left
-abbrev pub AreLines : List (List ℕ) → List ℕ → List ℕ → Type 0
-AreLines [] left bytes = left ≡ bytes
-AreLines (text ∷ texts) left bytes =
-    (mid : List ℕ) × IsLine text mid bytes × AreLines texts left mid
+-- the bytes are whole lines, or none
+abbrev pub AreLines : List ℕ → Type 0
+AreLines bytes = (bytes ≡ []) ⊎ ((lines : List ℕ) × (bytes ≡ lines ++ 10 ∷ []))
 
 -- what is left of the bytes begins with the first line that none has there: something whole begins
 -- with the lines that were read, and nothing good goes on after them with that line
 pub record Stops (IsWhole IsGood : List ℕ → Type 0) (left bytes : List ℕ) : Type 0 where
-  pub read : List (List ℕ)
-  pub lines : AreLines read left bytes
+  pub read : List ℕ
+  pub lines : AreLines read
+  pub all : bytes ≡ read ++ left
   pub more : List ℕ
-  pub example : List ℕ
-  pub goes_on : AreLines read more example
-  pub begun : IsWhole example
-  pub stops : (other whole : List ℕ) → AreLines read other whole → HasSameLine left other
-      → ¬ IsGood whole
+  pub begun : IsWhole (read ++ more)
+  pub stops : (other : List ℕ) → HasSameLine left other → ¬ IsGood (read ++ other)
 
 -- what is left begins with the first line that nothing of this kind has there
 abbrev pub StopsAt : {A : Type 0} → (A → List ℕ → List ℕ → Type 0) → List ℕ → List ℕ → Type 0
@@ -150,13 +146,18 @@ UpTo begin Spells (x ∷ xs) left bytes =
     (mid : List ℕ) × (text : List ℕ) × IsLine (begin ++ text) mid bytes × Spells x text
     × UpTo begin Spells xs left mid
 
--- the bytes begin with a line of each of these, of which this value is made, and no more follow
-pub record HasMany {A B : Type 0} (begin : List ℕ) (Spells : A → List ℕ → Type 0)
+-- the bytes begin with a line of each of these, of which this value is made
+pub record ReadMany {A B : Type 0} (begin : List ℕ) (Spells : A → List ℕ → Type 0)
     (Make : List A → B → Type 0) (x : B) (rest bytes : List ℕ) : Type 0 where
   pub each : List A
   pub lines : UpTo begin Spells each rest bytes
-  pub ends : HasNoLine begin rest
   pub make : Make each x
+
+-- and no more of them follow
+pub record HasMany {A B : Type 0} (begin : List ℕ) (Spells : A → List ℕ → Type 0)
+    (Make : List A → B → Type 0) (x : B) (rest bytes : List ℕ) : Type 0 where
+  pub read : ReadMany begin Spells Make x rest bytes
+  pub ends : HasNoLine begin rest
 
 -- a line may give the alignment: a power of two that a number of 64 bits can be
 abbrev pub IsGiven : ℕ → Type 0

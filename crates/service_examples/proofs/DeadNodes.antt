@@ -1,9 +1,9 @@
 -- What stays of entries, and what removals of dead nodes leave of a service.
-use Rattle.std.proofs.Common.{◌≡◌, ◌∙◌, ℕ, ◌≤◌, Bool, true, false, List, [], ◌∷◌, ◌++◌, length, map, refl, sym, ap, arith}
+use Rattle.std.proofs.Common.{◌≡◌, ◌∙◌, ℕ, zero, suc, ◌≤◌, Bool, true, false, List, [], ◌∷◌, ◌++◌, length, map, refl, sym, ap, arith}
 use Rattle.std.specs.Prelude.{not, ◌||◌, ◌&&◌, ◌==◌, nat_lt}
-use Rattle.std.proofs.Math.Bool.{or-false, or-true, and-true}
+use Rattle.std.proofs.Math.Bool.{or-false, and-true}
 use Rattle.std.proofs.lemmas.Bool.Decides.{nat_tests}
-use Rattle.std.proofs.lemmas.List.Filters.{length-filter_both}
+use Rattle.std.proofs.lemmas.List.Sums.{count_by-le-length, length-filter}
 use Rattle.std.proofs.lemmas.List.Elements.{filter_agree}
 use Rattle.std.proofs.lemmas.List.Folds.{list_any-append}
 use Rattle.iox2_dynamic.proofs.Names.{LockIfLastIndex, Entry, CalledInTurn, candidates, is_of, marks_of, staying, UniquePortId, ReleaseState, ContainerState, RegistryState}
@@ -11,7 +11,7 @@ use Rattle.iox2_container.specs.Calls.{is_outside}
 use Rattle.iox2_container.specs.Steps.{lock_after}
 use Rattle.iox2_container.proofs.Callable.{answers_by, passes_all}
 use Rattle.iox2_container.proofs.SameEntries.{staying_by}
-use Rattle.service_examples.specs.Removal.{others, last_went, OnlyOthersStay, ports_without, nodes_without}
+use Rattle.service_examples.specs.Removal.{others, OnlyOthersStay, ports_without, nodes_without}
 use Rattle.iox2_dynamic.specs.declared.dynamic_config.answers.DeregisterNodeState.{DeregisterNodeState}
 use Rattle.iox2_dynamic.specs.declared.dynamic_config.answers.PortCleanupAction.{PortCleanupAction}
 use Rattle.iox2_dynamic.specs.declared.dynamic_config.port_details.PortDetails.{PortDetails}
@@ -32,7 +32,7 @@ is_other : {T : Type 0} (node : T → ℕ) (d : ℕ) (x : T)
 is_other node d x = ap not (same_order (node x) d ∙ sym (or-false (d == node x)))
 
 -- where each answer is yes, all candidates go
-pub all_go : {F T : Type 0} (calls : F → T → Bool → F → Type 0)
+all_go : {F T : Type 0} (calls : F → T → Bool → F → Type 0)
     → ((f : F) (x : T) (r : Bool) (h : F) → calls f x r h → r ≡ true)
     → (node : T → ℕ) (d : ℕ) (marked : ℕ → Bool) (es : List (Entry T)) (f h : F)
     → CalledInTurn calls f (map (λ e. e.details) (candidates (is_of node d) es))
@@ -46,22 +46,14 @@ all_go calls agrees node d marked es f h a =
     (λ e. is_outside node (d ∷ []) e.details)
     (λ e. ap not (and-true (is_of node d e.details)) ∙ is_other node d e.details) es
 
--- the lock, where all of a node went
-pub lock_is : {A : Type 0} (all left : List (Entry A)) (locked : Bool)
-    → lock_after LockIfLastIndex (length all) (length left) locked
-    ≡ (locked || last_went all left)
-lock_is [] left locked = sym (or-false locked)
-lock_is (e ∷ all) [] locked = sym (or-true locked)
-lock_is (e ∷ all) (l ∷ left) locked = sym (or-false locked)
-
 -- none of the node's is left
-pub none_left : {T : Type 0} (node : T → ℕ) (d : ℕ) (es : List (Entry T))
+none_left : {T : Type 0} (node : T → ℕ) (d : ℕ) (es : List (Entry T))
     → candidates (is_of node d) (others node (d ∷ []) es) ≡ []
 none_left node d [] = refl
 none_left node d (e ∷ es) = grind (arith, is_other node d e.details, none_left node d es)
 
 -- first some dead nodes are removed, and then others
-pub others_then : {T : Type 0} (node : T → ℕ) (ds ms : List ℕ) (es : List (Entry T))
+others_then : {T : Type 0} (node : T → ℕ) (ds ms : List ℕ) (es : List (Entry T))
     → others node ms (others node ds es) ≡ others node (ds ++ ms) es
 others_then node ds ms [] = refl
 others_then node ds ms (e ∷ es) =
@@ -71,29 +63,26 @@ others_then node ds ms (e ∷ es) =
       others_then node ds ms es,
     )
 
-pub fewer : {T : Type 0} (node : T → ℕ) (ds : List ℕ) (es : List (Entry T))
+fewer : {T : Type 0} (node : T → ℕ) (ds : List ℕ) (es : List (Entry T))
     → length (others node ds es) ≤ length es
-fewer node ds es =
-    let both =
-    length-filter_both (λ e. not (is_outside node ds e.details))
-    (λ e. is_outside node ds e.details)
-    (λ e. elim (is_outside node ds e.details) as
-    (λ b. b ≡ not (not b)) [ true ↦ refl | false ↦ refl ]) es in
-    omega (arith, both)
+fewer {T} node ds es =
+    let kept : Entry T → Bool = λ e. is_outside node ds e.details in
+    omega (arith, length-filter kept es, count_by-le-length kept es)
 
-pub lock_then : {A : Type 0} (locked : Bool) (all some few : List (Entry A))
-    → length some ≤ length all → length few ≤ length some
-    → ((locked || last_went all some) || last_went some few) ≡ (locked || last_went all few)
-lock_then true all some few a b = refl
-lock_then false [] [] few a b = refl
-lock_then false [] (s ∷ some) few a b = absurd (omega arith)
-lock_then false (e ∷ all) [] (f ∷ few) a b = absurd (omega arith)
-lock_then false (e ∷ all) some few a b = refl
+-- the lock, where some entries go and then others
+lock_then : (locked : Bool) (all some few : ℕ) → some ≤ all → few ≤ some
+    → lock_after LockIfLastIndex some few (lock_after LockIfLastIndex all some locked)
+    ≡ lock_after LockIfLastIndex all few locked
+lock_then locked zero zero few a b = refl
+lock_then locked zero (suc some) few a b = absurd (omega arith)
+lock_then locked (suc all) zero zero a b = refl
+lock_then locked (suc all) zero (suc few) a b = absurd (omega arith)
+lock_then locked (suc all) (suc some) zero a b = refl
+lock_then locked (suc all) (suc some) (suc few) a b = refl
 
-pub still_locked : {A : Type 0} (locked : Bool) (all : List (Entry A))
-    → (locked || last_went all all) ≡ locked
-still_locked locked [] = or-false locked
-still_locked locked (e ∷ all) = or-false locked
+still_locked : (locked : Bool) (n : ℕ) → lock_after LockIfLastIndex n n locked ≡ locked
+still_locked locked zero = refl
+still_locked locked (suc n) = refl
 
 -- all ports of the node go where each answer is that they do
 ports_go : {F : Type 0} (calls : F → UniquePortId → PortCleanupAction → F → Type 0)
@@ -123,8 +112,7 @@ nodes_go dead old state new r =
     before tt tt r.step.called in
     let lock =
     ap (λ (es : List (Entry ℕ)). lock_after LockIfLastIndex (length before) (length es) locked)
-    (ap (λ (n : RegistryState ℕ). n.entries) is ∙ go)
-    ∙ lock_is before (others node (dead ∷ []) before) locked in
+    (ap (λ (n : RegistryState ℕ). n.entries) is ∙ go) in
     is ∙ (λ i. record old.registry { entries = go i; locked = lock i })
 
 none_of : (dead : ℕ) (old new : RegistryState PortDetails) → new ≡ ports_without (dead ∷ []) old
@@ -160,48 +148,44 @@ one_removed calls old f dead answer new h r agrees =
 -- no node is removed
 pub none_removed : (s : Service) → OnlyOthersStay [] s s
 none_removed s =
-    let ports : (r : RegistryState PortDetails) → r ≡ ports_without [] r =
-    λ r. ap (λ (es : List (Entry PortDetails)). record r { entries = es })
-    (sym (passes_all r.entries)) in
-    let node : ℕ → ℕ = λ id. id in
     let n : RegistryState ℕ = s.nodes.registry in
+    let all = passes_all n.entries in
+    let lock = ap (λ (es : List (Entry ℕ)). lock_after LockIfLastIndex (length n.entries)
+    (length es) n.locked) all ∙ still_locked n.locked (length n.entries) in
     record {
       pattern = refl;
-      nodes = ap (λ (l : Bool). record n { locked = l }) (sym (still_locked n.locked n.entries))
-          ∙ ap (λ (es : List (Entry ℕ)).
-          record n { entries = es; locked = n.locked || last_went n.entries es })
-          (sym (passes_all n.entries));
-      first_ports = ports s.ports.first.registry;
-      second_ports = ports s.ports.second.registry;
+      nodes = sym (λ i. record n { entries = all i; locked = lock i });
+      first_ports = sym (same_ports s.ports.first.registry);
+      second_ports = sym (same_ports s.ports.second.registry);
     }
+  where
+    same_ports : (r : RegistryState PortDetails) → ports_without [] r ≡ r
+    same_ports r = λ i. record r { entries = passes_all r.entries i }
+
+ports_then : (ds ms : List ℕ) (r : RegistryState PortDetails)
+    → ports_without ms (ports_without ds r) ≡ ports_without (ds ++ ms) r
+ports_then ds ms r = λ i. record r { entries = others_then node_of ds ms r.entries i }
+
+nodes_then : (ds ms : List ℕ) (n : RegistryState ℕ)
+    → nodes_without ms (nodes_without ds n) ≡ nodes_without (ds ++ ms) n
+nodes_then ds ms n =
+    let node : ℕ → ℕ = λ id. id in
+    let some : List (Entry ℕ) = others node ds n.entries in
+    let few = others_then node ds ms n.entries in
+    let lock = lock_then n.locked (length n.entries) (length some) (length (others node ms some))
+    (fewer node ds n.entries) (fewer node ms some)
+    ∙ ap (λ (es : List (Entry ℕ)). lock_after LockIfLastIndex (length n.entries) (length es)
+    n.locked) few in
+    λ i. record n { entries = few i; locked = lock i }
 
 -- first some dead nodes are removed, and then others
 pub more_removed : (ds ms : List ℕ) (old mid new : Service) → OnlyOthersStay ds old mid
     → OnlyOthersStay ms mid new → OnlyOthersStay (ds ++ ms) old new
-more_removed ds ms old mid new r s =
-    let ports : (a b c : RegistryState PortDetails) → b ≡ ports_without ds a
-    → c ≡ ports_without ms b → c ≡ ports_without (ds ++ ms) a
-    = λ a b c e f. f
-    ∙ (ap (ports_without ms) e
-    ∙ ap (λ (es : List (Entry PortDetails)). record a { entries = es })
-    (others_then node_of ds ms a.entries)) in
-    let node : ℕ → ℕ = λ id. id in
-    let n : RegistryState ℕ = old.nodes.registry in
-    let fewer_left : List (Entry ℕ) = others node ds n.entries in
-    let lock =
-    lock_then n.locked n.entries fewer_left (others node ms fewer_left)
-    (fewer node ds n.entries) (fewer node ms fewer_left) in
-    record {
-      pattern = s.pattern ∙ r.pattern;
-      nodes = s.nodes ∙ (ap (nodes_without ms) r.nodes
-          ∙ (ap (λ (l : Bool). record n { entries = others node ms fewer_left; locked = l }) lock
-          ∙ ap (λ (es : List (Entry ℕ)).
-          record n { entries = es; locked = n.locked || last_went n.entries es })
-          (others_then node ds ms n.entries)));
-      first_ports =
-          ports old.ports.first.registry mid.ports.first.registry new.ports.first.registry
-          r.first_ports s.first_ports;
-      second_ports =
-          ports old.ports.second.registry mid.ports.second.registry new.ports.second.registry
-          r.second_ports s.second_ports;
-    }
+more_removed ds ms old mid new r s = record {
+  pattern = s.pattern ∙ r.pattern;
+  nodes = s.nodes ∙ ap (nodes_without ms) r.nodes ∙ nodes_then ds ms old.nodes.registry;
+  first_ports = s.first_ports ∙ ap (ports_without ms) r.first_ports
+      ∙ ports_then ds ms old.ports.first.registry;
+  second_ports = s.second_ports ∙ ap (ports_without ms) r.second_ports
+      ∙ ports_then ds ms old.ports.second.registry;
+}

@@ -1,5 +1,5 @@
 -- The opening of a service.
-use Rattle.std.specs.Prelude.{◌≡◌, ◌≢◌, ℕ, ◌+◌, ◌<◌, ◌≤◌, ◌^◌, true, false, Result, Ok, Err}
+use Rattle.std.specs.Prelude.{◌≡◌, ◌≢◌, ℕ, ◌+◌, ◌<◌, ◌≤◌, ◌^◌, Result, Ok, Err}
 use Rattle.std.specs.Int.{◌∣◌}
 use Rattle.iox2_texts.specs.Verify.{IsSatisfied}
 use Rattle.iox2_texts.specs.VerifyErrors.{Verifies}
@@ -14,9 +14,6 @@ use Rattle.iox2_static.specs.declared.static_config.messaging_pattern.MessagingP
 use Rattle.iox2_static.specs.declared.static_config.messaging_pattern.MessagingPattern.TheVariants as pattern
 use Rattle.iox2_static.specs.Description.{Description}
 use Rattle.iox2_static.specs.MessagingPattern.{kind_of}
-use Rattle.iox2_container.specs.Steps.{IsFull}
-use Rattle.iox2_dynamic.specs.declared.dynamic_config.answers.RegisterNodeResult.{RegisterNodeResult}
-use Rattle.iox2_dynamic.specs.declared.dynamic_config.answers.RegisterNodeResult.TheVariants.{MarkedForDestruction, ExceedsMaxNumberOfNodes}
 use Rattle.iox2_dynamic.specs.Service.{Service}
 use Rattle.iox2_dynamic.specs.Steps.{RegisterStep}
 use Rattle.service_examples.specs.declared.builder.Opener.{Opener}
@@ -48,40 +45,35 @@ IsVerified d o = (kind_of d.pattern ≡ kind.PublishSubscribe) × IsSatisfied o.
 abbrev pub IsCompatible : Description → Opener → Type 0
 IsCompatible d o = IsVerified d o × MayOpen o.types (types_of d.pattern)
 
--- the opener may use the messages, which fit the layout that is returned, one of just the size and
--- alignment that the service's messages have, and its node is registered
+-- the opener may use messages of these types, and they fit the layout, one of just the size and
+-- alignment that they have for the service
+pub record IsRoom (types : MessageTypeDetails) (o : Opener) (room : SampleLayoutParts)
+    : Type 0 where
+  pub may_open : MayOpen o.types types
+  pub messages : MessagesFit types o.types o.elements room.size
+  pub size : room.size ≡ sample_size types o.elements
+  pub alignment : room.alignment ≡ types.header.alignment
+  pub limit : sample_size types o.elements < 2 ^ 63
+
+-- the layout of a message, or the first cause for which there is none
+abbrev pub LaysOut : Description → Opener → Result SampleLayoutParts OpenError → Type 0
+LaysOut d o (Ok room) = IsVerified d o × IsRoom (types_of d.pattern) o room
+LaysOut d o (Err IncompatibleMessagingPattern) = kind_of d.pattern ≢ kind.PublishSubscribe
+LaysOut d o (Err (IncompatibleAttributes missing)) =
+    (kind_of d.pattern ≡ kind.PublishSubscribe) × Verifies o.verifier d.attributes (Err missing)
+LaysOut d o (Err IncompatibleTypes) = IsVerified d o × (¬ MayOpen o.types (types_of d.pattern))
+LaysOut d o (Err MessageTooLarge) = IsCompatible d o
+    × (2 ^ 63 ≤ sample_size (types_of d.pattern) o.elements)
+LaysOut d o (Err (NodeRefused why)) = ⊥
+
+-- the opener may use the messages, which fit the layout, and its node is registered
 abbrev pub Opens : Description → Opener → Service → OpenedService → Service → Type 0
 Opens d o old opened new =
-    IsCompatible d o
-    × MessagesFit (types_of d.pattern) o.types o.elements opened.message.size
-    × (opened.message.size ≡ sample_size (types_of d.pattern) o.elements)
-    × (opened.message.alignment ≡ (types_of d.pattern).header.alignment)
-    × RegisterStep old o.node (Ok opened.node) new
-
--- the layout of a message for an opener that may use messages of these types
-abbrev pub GivesRoom : MessageTypeDetails → Opener → Result SampleLayoutParts OpenError → Type 0
-GivesRoom types o (Ok room) =
-    MayOpen o.types types × MessagesFit types o.types o.elements room.size
-    × (room.size ≡ sample_size types o.elements)
-    × (room.alignment ≡ types.header.alignment)
-    × (sample_size types o.elements < 2 ^ 63)
-GivesRoom types o (Err IncompatibleTypes) = ¬ MayOpen o.types types
-GivesRoom types o (Err MessageTooLarge) = MayOpen o.types types
-    × (2 ^ 63 ≤ sample_size types o.elements)
-GivesRoom types o (Err other) = ⊥
-
--- why no node is registered any more, or none for now
-abbrev pub RefusesNodes : Service → RegisterNodeResult → Type 0
-RefusesNodes s MarkedForDestruction = s.nodes.registry.locked ≡ true
-RefusesNodes s ExceedsMaxNumberOfNodes = (s.nodes.registry.locked ≡ false) × IsFull s.nodes.registry
+    LaysOut d o (Ok opened.message) × RegisterStep old o.node (Ok opened.node) new
 
 -- the first cause for which the service is not opened
 abbrev pub Refuses : Description → Opener → Service → OpenError → Type 0
-Refuses d o s IncompatibleMessagingPattern = kind_of d.pattern ≢ kind.PublishSubscribe
-Refuses d o s (IncompatibleAttributes missing) =
-    (kind_of d.pattern ≡ kind.PublishSubscribe) × Verifies o.verifier d.attributes (Err missing)
-Refuses d o s IncompatibleTypes = IsVerified d o × (¬ MayOpen o.types (types_of d.pattern))
-Refuses d o s MessageTooLarge = IsCompatible d o
-    × (2 ^ 63 ≤ sample_size (types_of d.pattern) o.elements)
 Refuses d o s (NodeRefused why) =
-    IsCompatible d o × (sample_size (types_of d.pattern) o.elements < 2 ^ 63) × RefusesNodes s why
+    ((message : SampleLayoutParts) × LaysOut d o (Ok message))
+    × ((left : Service) × RegisterStep s o.node (Err why) left)
+Refuses d o s why = LaysOut d o (Err why)

@@ -1,5 +1,5 @@
 -- The attaching of publishers, and their memory.
-use Rattle.std.specs.Prelude.{◌≡◌, ℕ, ◌+◌, ◌*◌, ◌<◌, ◌≤◌, ◌^◌, true, false, Result, Ok, Err}
+use Rattle.std.specs.Prelude.{◌≡◌, ℕ, ◌+◌, ◌*◌, ◌<◌, ◌≤◌, ◌^◌, Result, Ok, Err}
 use Rattle.std.specs.Int.{◌∣◌}
 use Rattle.iox2_config.specs.declared.config.choices.DataSegmentType.TheVariants.{Static}
 use Rattle.iox2_config.specs.Blocks.{HoldsMessage, block}
@@ -8,13 +8,10 @@ use Rattle.iox2_config.specs.Parts.{Apart}
 use Rattle.iox2_static.specs.declared.static_config.publish_subscribe.StaticConfig.{StaticConfig}
 use Rattle.iox2_static.specs.Chunks.{IsGreatest}
 use Rattle.iox2_static.specs.PublishSubscribe.{sample_limits}
-use Rattle.iox2_container.specs.Steps.{IsFull}
-use Rattle.iox2_dynamic.specs.declared.dynamic_config.answers.AttachError.{AttachError}
-use Rattle.iox2_dynamic.specs.declared.dynamic_config.answers.AttachError.TheVariants.{ServiceIsLocked, NodeNotRegistered, OutOfSpace}
 use Rattle.iox2_dynamic.specs.declared.dynamic_config.port_details.PortDetails.{PortDetails}
 use Rattle.iox2_dynamic.specs.declared.dynamic_config.port_details.PortDetails.TheVariants as of
-use Rattle.iox2_dynamic.specs.Service.{Service, entries_of_node}
-use Rattle.iox2_dynamic.specs.Steps.{AttachStep, IsOpenFor}
+use Rattle.iox2_dynamic.specs.Service.{Service}
+use Rattle.iox2_dynamic.specs.Steps.{AttachStep}
 use Rattle.service_examples.specs.declared.factory.DataSegment.{DataSegment}
 use Rattle.service_examples.specs.declared.factory.Publisher.{Publisher}
 use Rattle.service_examples.specs.declared.factory.PublisherError.{PublisherError}
@@ -77,16 +74,9 @@ AttachesPublisher s p old made new =
     IsSegment s p.max_loaned_samples p.max_elements made.segment
     × AttachStep old (publisher_of p made.segment.blocks) (Ok made.handle) new
 
--- why the service takes no publisher of the node
-abbrev pub RefusesPort : Service → ℕ → AttachError → Type 0
-RefusesPort s node ServiceIsLocked = s.nodes.registry.locked ≡ true
-RefusesPort s node NodeNotRegistered =
-    (s.nodes.registry.locked ≡ false) × (entries_of_node node s.nodes.registry ≡ 0)
-RefusesPort s node OutOfSpace = IsOpenFor s node × IsFull s.ports.first.registry
-
 -- the first cause for which the publisher is not attached
 abbrev pub RefusesPublisher : StaticConfig → PublisherSettings → Service → PublisherError → Type 0
 RefusesPublisher s p service (NotAttached why) =
-    ((segment : DataSegment) × IsSegment s p.max_loaned_samples p.max_elements segment)
-    × RefusesPort service p.node why
+    (segment : DataSegment) × IsSegment s p.max_loaned_samples p.max_elements segment
+    × ((left : Service) × AttachStep service (publisher_of p segment.blocks) (Err why) left)
 RefusesPublisher s p service why = GivesSegment s p.max_loaned_samples p.max_elements (Err why)

@@ -3,7 +3,7 @@ ghost use Rattle.std.specs.Prelude.{◌≡◌, ◌↔◌, IsTrue, OnErr, IfOk, I
 ghost use Rattle.iox2_config.specs.Blocks.{MayOpen};
 ghost use Rattle.iox2_config.specs.declared.hash.input.PatternKind.TheVariants as kind;
 ghost use Rattle.iox2_static.specs.MessagingPattern.{kind_of};
-ghost use Rattle.service_examples.specs.Opening.{Opens, Refuses, GivesRoom, types_of};
+ghost use Rattle.service_examples.specs.Opening.{LaysOut, Opens, Refuses, types_of};
 ghost use Rattle.service_examples.specs.Unchanged.{SameAttached};
 
 use iox2_config::types::{MessageTypeDetails, SampleLayout};
@@ -63,6 +63,17 @@ pub fn open_service(
     ensures cause { IfErr result (Refuses description.now opener.now service.old) }
     ensures unchanged { OnErr result (SameAttached service.old service.new) }
 {
+    let message = room_for(description, opener)?;
+    match service.register_node_id(opener.node) {
+        Ok(node) => Ok(OpenedService { node, message }),
+        Err(why) => Err(OpenError::NodeRefused(why)),
+    }
+}
+
+/// The layout of a message of the opener's, where the service is as it requires.
+fn room_for(description: &StaticConfig, opener: &Opener) -> Result<SampleLayout, OpenError>
+    ensures { LaysOut description.now opener.now result }
+{
     if !description.is_publish_subscribe() {
         return Err(OpenError::IncompatibleMessagingPattern);
     }
@@ -72,10 +83,13 @@ pub fn open_service(
     {
         return Err(OpenError::IncompatibleAttributes(missing));
     }
-    let message = room_for(types_of(description), opener)?;
-    match service.register_node_id(opener.node) {
-        Ok(node) => Ok(OpenedService { node, message }),
-        Err(why) => Err(OpenError::NodeRefused(why)),
+    let types = types_of(description);
+    if !may_open(&opener.types, types) {
+        return Err(OpenError::IncompatibleTypes);
+    }
+    match types.sample_layout(opener.elements) {
+        Some(message) => Ok(message),
+        None => Err(OpenError::MessageTooLarge),
     }
 }
 
@@ -85,19 +99,6 @@ fn types_of(description: &StaticConfig) -> &MessageTypeDetails
     ensures { result.now ≡ types_of description.now.pattern }
 {
     description.publish_subscribe().message_type_details()
-}
-
-/// The layout of a message of the opener's.
-fn room_for(types: &MessageTypeDetails, opener: &Opener) -> Result<SampleLayout, OpenError>
-    ensures { GivesRoom types.now opener.now result }
-{
-    if !may_open(&opener.types, types) {
-        return Err(OpenError::IncompatibleTypes);
-    }
-    match types.sample_layout(opener.elements) {
-        Some(message) => Ok(message),
-        None => Err(OpenError::MessageTooLarge),
-    }
 }
 
 /// Whether an opener with these types may use the messages of the service: its types were given,

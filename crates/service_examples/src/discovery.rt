@@ -86,13 +86,10 @@ fn number_attached(service: &DynamicConfig) -> Result<usize, AllocError>
 {
     let census = take_census(service);
     let ports = census.first.count.checked_add(census.second.count);
-    let Some(ports) = ports else {
-        return Err(AllocError);
-    };
-    let Some(number) = census.nodes.checked_add(ports) else {
-        return Err(AllocError);
-    };
-    Ok(number)
+    census
+        .nodes
+        .checked_add(ports.ok_or(AllocError)?)
+        .ok_or(AllocError)
 }
 
 /// Puts each entry of a node at the end.

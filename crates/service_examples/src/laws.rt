@@ -37,24 +37,11 @@ pub fn sizes_go_by_fields(one: &Sizes, other: &Sizes) -> (bool, Result<Sizes, Al
     (one == other, one.clone())
 }
 
-/// Why a publisher was not attached is equal exactly where it is the same, and a clone of it is it
-/// and takes no memory.
-pub fn publisher_errors_go_by_variant(
-    one: &PublisherError,
-    other: &PublisherError,
-) -> (bool, Result<PublisherError, AllocError>)
-    ensures equal { IsTrue result.0 ↔ (one.now ≡ other.now) }
-    ensures cloned { IsOkAnd result.1 (λ copy. copy ≡ one.now) }
-{
-    (one == other, one.clone())
-}
+/// Why a publisher was not attached, and why a node did not join.
+pub type Causes = (PublisherError, JoinError);
 
-/// Why a node did not join is equal exactly where it is the same, and a clone of it is it and takes
-/// no memory.
-pub fn join_errors_go_by_variant(
-    one: &JoinError,
-    other: &JoinError,
-) -> (bool, Result<JoinError, AllocError>)
+/// These are equal exactly where they are the same, and a clone of one is it and takes no memory.
+pub fn causes_go_by_variant(one: &Causes, other: &Causes) -> (bool, Result<Causes, AllocError>)
     ensures equal { IsTrue result.0 ↔ (one.now ≡ other.now) }
     ensures cloned { IsOkAnd result.1 (λ copy. copy ≡ one.now) }
 {

@@ -27,6 +27,7 @@ fn pair_in(text: &[u8]) -> Option<(AttributeKey, AttributeValue)>
 }
 
 /// The key of a text. It has no space.
+#[tactic(auto, using(line_streams::proofs::Indices::has_one))]
 fn key_in(text: &[u8]) -> Option<AttributeKey>
     ensures { MatchOption result ((key : List ℕ) → IsKey key → ¬ (text.now ≡ key))
         (λ key. IsKey key × (text.now ≡ key)) }
@@ -41,7 +42,6 @@ fn key_in(text: &[u8]) -> Option<AttributeKey>
 }
 
 /// The lines of the attributes that the service has, at most 16.
-#[tactic(auto, using(crate::proofs::Forms::all_read))]
 pub(super) fn attributes_before(bytes: &[u8]) -> Result<(AttributeSet, &[u8]), Expected<'_>>
     ensures { MatchResult result (λ found. HasAttributes found.0 found.1.now bytes.now)
         (IsFailure (line_by_line HasAttributes) bytes.now) }
@@ -66,7 +66,7 @@ pub(super) fn attributes_before(bytes: &[u8]) -> Result<(AttributeSet, &[u8]), E
 }
 
 /// The lines of the attributes that an opener requires, at most 16.
-#[tactic(auto, using(crate::proofs::Forms::all_read, crate::proofs::Attributes::one_more_required))]
+#[tactic(auto, using(crate::proofs::Attributes::one_more_required))]
 pub(super) fn required_before(bytes: &[u8]) -> Result<(AttributeVerifier, &[u8]), Expected<'_>>
     ensures { MatchResult result (λ found. HasRequirements found.0 found.1.now bytes.now)
         (IsFailure (line_by_line HasRequirements) bytes.now) }

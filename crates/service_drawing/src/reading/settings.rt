@@ -100,7 +100,6 @@ fn expected(kind: PatternKind, bytes: &[u8], reason: Reason) -> Expected<'_>
 }
 
 /// The lines of the settings of a pattern, with which the configuration is changed.
-#[tactic(auto, using(crate::proofs::Forms::all_read))]
 pub(super) fn settings_before<'a>(
     bytes: &'a [u8],
     kind: PatternKind,
