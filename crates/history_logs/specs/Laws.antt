@@ -37,8 +37,8 @@ LogsHaveOneReading =
     → HasGood bytes count log rest → HasGood bytes other_count other other_rest
     → (count ≡ other_count) × (rest ≡ other_rest) × IsSameLog log other
 
--- A log that conforms has no bad line, and where it conforms or has one, it is not refused. Its calls
--- and services are counted in one way, and one line of it is bad.
+-- A log that conforms has no bad line, and where it conforms or has one, it is not refused. Its
+-- calls and services are counted in one way, and one line of it is bad.
 pub record VerdictsExclude (bytes : List ℕ) : Type 0 where
   pub conforms_or_refused : (n m : ℕ) (r : Refusal) → Judged bytes (Conforms n m)
       → ¬ (Judged bytes (Refused r))

@@ -203,8 +203,8 @@ first_lines (suc count) (b ∷ bytes) =
     b ∷ (if b == 10 then first_lines count bytes else first_lines (suc count) bytes)
 
 -- By all replies of the log one is refused. The line is the first one down to which one is. What is
--- reported is by the replies that stand in the lines down to it: a call that is answered below it may
--- have any reply.
+-- reported is by the replies that stand in the lines down to it: a call that is answered below it
+-- may have any reply.
 pub record IsFirstRefused (bytes : List ℕ) (reported : Refusal) : Type 0 where
   pub whole : (other : Refusal) × RefusesIn bytes other
   pub above : ℕ
