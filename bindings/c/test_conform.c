@@ -294,6 +294,5 @@ int main(void) {
     no_memory(refused, 0, IOX2SD_STATUS_BUFFER_TOO_SHORT);
     no_memory(one_slot, MOST, IOX2SD_STATUS_DONE);
     no_memory(three_states, MOST, IOX2SD_STATUS_NO_ORDER);
-    no_memory(a_reply_below, MOST, IOX2SD_STATUS_NO_ORDER);
     return end_of_checks();
 }
