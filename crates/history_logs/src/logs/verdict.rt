@@ -49,11 +49,11 @@ pub struct Configuration {
 /// A reply that no order of the calls explains.
 #[derive(Debug, Drop)]
 pub struct Refusal {
-    /// The first line down to which the log is not explained: down to the line above it, it is, but
-    /// for services that pass a bound there. It has a reply.
+    /// The line down to which the log is not explained, by the replies that stand in these lines.
+    /// Down to the line above it, it is, but for services that pass a bound there.
     pub line: usize,
     /// The line of the reply that is reported, which no order explains with the replies down to
-    /// `line`. It is that line, or one above, where a call was open that has its reply in `line`.
+    /// `line`. It is that line, or one above it.
     pub reply: usize,
     /// Its words.
     pub words: Vec<u8>,
@@ -78,9 +78,8 @@ pub struct Refusal {
 pub enum Verdict {
     /// Orders of the calls explain all replies: so many calls, on so many services.
     Conforms(usize, usize),
-    /// Orders explain what is above a line, and none explains what is seen down to it. It is the
-    /// first such line, also where a bound was passed above it on another service, or before its
-    /// own one began anew.
+    /// No order explains what is seen down to a line, and orders explain what is seen down to the
+    /// line above it, but for services that pass a bound there.
     Refused(Refusal),
     /// At this line more than `histories::MAX_CONFIGS` configurations were to be followed: not
     /// decided. No reply is refused on another service, or below it, where the service began anew.
