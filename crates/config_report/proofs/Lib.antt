@@ -1,4 +1,4 @@
 mod AllPorts
+pub mod Characters
 pub mod Lines
 pub mod Pairs
-mod Printable

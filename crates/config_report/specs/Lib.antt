@@ -1,4 +1,5 @@
 pub mod Contradictions
 pub mod Findings
 pub mod Notes
+pub mod Printable
 pub mod Text

@@ -13,6 +13,7 @@ use Rattle.iox2_config_file.specs.declared.unknown.UnknownKey.{UnknownKey}
 use Rattle.config_report.specs.declared.finding.Finding.{Finding}
 use Rattle.config_report.specs.declared.finding.Severity.{Severity}
 use Rattle.config_report.specs.declared.finding.Severity.TheVariants.{Error, Warning}
+use Rattle.config_report.specs.Printable.{printable}
 use Rattle.toml_writer.specs.Text.{key_text}
 
 -- the position of a path in a file of at most 128 KiB, if an expression writes it
@@ -28,9 +29,9 @@ at_text (Some p) = decimal p.line ++ (codes ":" ++ (decimal p.column ++ codes ":
 abbrev pub has_no_control : List ℕ → Bool
 has_no_control text = list_all (λ c. nat_le 32 c) text
 
--- a text, unless it has a control character
+-- a text, with its control characters escaped if it has one below 32
 abbrev pub in_line : List ℕ → List ℕ
-in_line text = if has_no_control text then text else codes "a text with control characters"
+in_line text = if has_no_control text then text else printable text
 
 -- something that is said of a file: where, how much it weighs, of which key, and what
 pub record Note : Type 0 where

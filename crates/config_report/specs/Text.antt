@@ -19,6 +19,7 @@ use Rattle.iox2_config_file.specs.Read.{sections}
 use Rattle.iox2_config_file.specs.Write.{value_text, value_view}
 use Rattle.iox2_static.specs.Chunks.{ReportsGreatest}
 use Rattle.iox2_texts.specs.Path.{join}
+use Rattle.config_report.specs.Printable.{printable_line}
 use Rattle.config_report.specs.declared.text.FileKind.{FileKind}
 use Rattle.config_report.specs.declared.text.ValuePair.{ValuePair as HeldPair}
 
@@ -80,23 +81,27 @@ response_limits_of d =
 abbrev pub all_limits : ℕ → List ℕ → List ℕ
 all_limits ports limits = concat (replicate ports limits)
 
--- the line of a setting: its path and its value, and exactly where its value differs from the
+-- what is said of a setting: its path and its value, and exactly where its value differs from the
 -- default a mark and the default
-unfoldable pub setting_line : Section → ValuePair → List ℕ
-setting_line s p =
+unfoldable pub setting_text : Section → ValuePair → List ℕ
+setting_text s p =
     if is_same p.value p.other
-    then
-    codes "  " ++ (prefix_of s ++ (p.key ++ (codes " = " ++ (value_text p.value ++ codes "\n"))))
+    then codes "  " ++ (prefix_of s ++ (p.key ++ (codes " = " ++ value_text p.value)))
     else codes "! " ++ (prefix_of s ++ (p.key ++ (codes " = " ++ (value_text p.value
-    ++ (codes ", by default " ++ (value_text p.other ++ codes "\n"))))))
+    ++ (codes ", by default " ++ value_text p.other)))))
+
+-- its line
+unfoldable pub setting_line : Section → ValuePair → List ℕ
+setting_line s p = printable_line (setting_text s p)
 
 -- a name, filled with spaces to 22 characters
 abbrev pub padded_name : List ℕ → List ℕ
 padded_name name = padded (format_spec 32 1 0 22 (2 ^ 64 - 1)) name
 
--- the same, and what stands beside it
+-- the same, and what stands beside it, as a line
 abbrev pub named_line : List ℕ → List ℕ → List ℕ
-named_line name text = codes "  " ++ (padded_name name ++ (codes " " ++ (text ++ codes "\n")))
+named_line name text =
+    printable_line (codes "  " ++ (padded_name name ++ (codes " " ++ text)))
 
 -- the path of an entry of the root path, where a path may be as long
 abbrev pub directory_text : List ℕ → List ℕ → List ℕ

@@ -302,7 +302,7 @@ pub fn settings_text(alloc: Global, config: &Config) -> Result<String, AllocErro
     ensures { IfOk result (λ text. IsReportText config.now (string_bytes text)) }
 {
     let mut text = String::new(alloc);
-    write_text(&mut text, config, &Config::default())?;
+    write_text(alloc, &mut text, config, &Config::default())?;
     Ok(text)
 }
 

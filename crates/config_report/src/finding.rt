@@ -12,6 +12,7 @@ ghost use Rattle.toml.specs.Parse.{parse_document};
 ghost use Rattle.toml_positions.specs.Written.{path_view, position_in};
 ghost use Rattle.toml_writer.specs.Text.{key_text};
 
+use crate::printable::printable;
 use iox2_config::config::Config;
 use iox2_config_file::{Likeness, Proposal, Section, SettingFault, UnknownKey};
 use std::alloc::{AllocError, Global};
@@ -109,14 +110,14 @@ fn has_no_control(text: &[u8]) -> bool
     text.iter().all(|byte| 32 <= *byte)
 }
 
-/// A text, unless it has a control character.
+/// A text, with its control characters escaped if it has one below 32.
 pub(crate) fn in_line(alloc: Global, text: String) -> Result<String, AllocError>
     ensures { IfOk result (λ line. string_bytes line ≡ in_line (string_bytes text)) }
 {
     if has_no_control(text.as_bytes()) {
         Ok(text)
     } else {
-        String::from_str(alloc, "a text with control characters")
+        printable(alloc, text.as_str())
     }
 }
 

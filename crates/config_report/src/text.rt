@@ -3,7 +3,8 @@ ghost use Rattle.std.specs.Prelude.{◌≡◌, ◌<◌, ◌++◌, ◌↔◌, ℕ
 ghost use Rattle.std.specs.Prelude.{length, map, flat_map, option_map, slice_get};
 ghost use Rattle.iox2_config_file.specs.Read.{row_view, rows_in};
 ghost use Rattle.iox2_config_file.specs.Write.{value_view};
-ghost use Rattle.config_report.specs.Text.{is_same, IsReportOver, setting_line, table_lines};
+ghost use Rattle.config_report.specs.Text.{is_same, IsReportOver, setting_line, setting_text};
+ghost use Rattle.config_report.specs.Text.{table_lines};
 ghost use Rattle.config_report.specs.Text.{value_pair, value_pairs};
 ghost use Rattle.config_report.specs.Text.{directory_text, directories_text, named_line};
 ghost use Rattle.config_report.specs.Text.{file_line, files_text, kind_view, kinds_of};
@@ -15,17 +16,19 @@ ghost use Rattle.std.specs.Duration.{as_nanos};
 ghost use Rattle.iox2_config_file.specs.Values.{duration};
 ghost use Rattle.iox2_texts.specs.Path.{MakesJoined};
 
+use crate::printable::write_printable_line;
 use iox2_config::config::{Config, Node, Service};
 use iox2_config_file::{Row, SECTIONS, Section, SettingValue, rows, value_at};
 use iox2_static::static_config::{publish_subscribe, request_response};
 use iox2_texts::bounded::SemanticStringError;
 use iox2_texts::paths::{FileName, Path};
-use std::alloc::AllocError;
+use std::alloc::{AllocError, Global};
 use std::fmt;
 use std::time::Duration;
 
 /// Appends all settings, each marked where it differs from a default, and what follows from them.
 pub(crate) fn write_text(
+    alloc: Global,
     out: &mut String,
     config: &Config,
     default: &Config,
@@ -38,14 +41,15 @@ pub(crate) fn write_text(
         out,
         "settings, with ! where they differ from the defaults\n"
     )?;
-    write_tables(out, &SECTIONS, config, default)?;
-    write_directories(out, config)?;
-    write_files(out, config)?;
+    write_tables(alloc, out, &SECTIONS, config, default)?;
+    write_directories(alloc, out, config)?;
+    write_files(alloc, out, config)?;
     write_needs(out, config)
 }
 
 /// Appends the settings of some tables.
 fn write_tables(
+    alloc: Global,
     out: &mut String,
     sections: &[Section],
     config: &Config,
@@ -55,7 +59,7 @@ fn write_tables(
         ++ flat_map (table_lines default.now config.now) sections.now) }
 {
     for section in sections {
-        write_table(out, *section, config, default)?;
+        write_table(alloc, out, *section, config, default)?;
     }
     Ok(())
 }
@@ -63,6 +67,7 @@ fn write_tables(
 /// Appends the settings of a table.
 #[tactic(auto, using(crate::proofs::Pairs::walk_next, crate::proofs::Pairs::walk_past, crate::proofs::Pairs::walk_end), unfolding(crate::specs::Text::table_lines))]
 fn write_table(
+    alloc: Global,
     out: &mut String,
     section: Section,
     config: &Config,
@@ -76,9 +81,24 @@ fn write_table(
         let Some(pair) = pair_at(config, default, section, rows, index) else {
             return Ok(());
         };
-        write!(out, "{}", Line(section, pair))?;
+        write_setting(alloc, out, section, pair)?;
     }
     Ok(())
+}
+
+/// Appends the line of a setting.
+#[tactic(auto, unfolding(crate::specs::Text::setting_line))]
+fn write_setting(
+    alloc: Global,
+    out: &mut String,
+    section: Section,
+    pair: ValuePair<'_>,
+) -> Result<(), AllocError>
+    ensures { OnOk result (string_bytes out.new
+        ≡ string_bytes out.old ++ setting_line section (value_pair pair.entry)) }
+{
+    let line = format!(in alloc; "{}", Setting(section, pair))?;
+    write_printable_line(out, line.as_str())
 }
 
 /// A setting in two configurations.
@@ -112,22 +132,22 @@ pub fn pair_at<'a>(
     Some(ValuePair { key, value, other })
 }
 
-/// The line of a setting, beside its default where it differs from that.
+/// A setting, beside its default where it differs from that.
 #[derive(Clone, Copy)]
-struct Line<'a>(Section, ValuePair<'a>);
+struct Setting<'a>(Section, ValuePair<'a>);
 
-impl fmt::Display for Line<'_> {
-    ghost output = { λ line. Some (setting_line line.0 (value_pair line.1)) };
+impl fmt::Display for Setting<'_> {
+    ghost output = { λ setting. Some (setting_text setting.0 (value_pair setting.1)) };
 
-    #[tactic(auto, unfolding(crate::specs::Text::setting_line))]
+    #[tactic(auto, unfolding(crate::specs::Text::setting_text))]
     fn fmt<W: fmt::Write>(&self, f: &mut fmt::Formatter<W>) -> fmt::Result {
-        let Line(section, pair) = *self;
+        let Setting(section, pair) = *self;
         let ValuePair { key, value, other } = pair;
         let prefix = section.prefix();
         if is_same(value, other) {
-            write!(f, "  {prefix}{key} = {value}\n")
+            write!(f, "  {prefix}{key} = {value}")
         } else {
-            write!(f, "! {prefix}{key} = {value}, by default {other}\n")
+            write!(f, "! {prefix}{key} = {value}, by default {other}")
         }
     }
 }
@@ -155,16 +175,16 @@ fn is_time(value: SettingValue<'_>, time: Duration) -> bool
 }
 
 /// Appends the directories.
-fn write_directories(out: &mut String, config: &Config) -> Result<(), AllocError>
+fn write_directories(alloc: Global, out: &mut String, config: &Config) -> Result<(), AllocError>
     ensures { OnOk result
         (string_bytes out.new ≡ string_bytes out.old ++ directories_text config.now) }
 {
     let services = config.global.service_dir();
     let nodes = config.global.node_dir();
     write!(out, "\ndirectories\n")?;
-    write_named(out, "root", config.global.root_path().as_str())?;
-    write_named(out, "services", directory_text(&services))?;
-    write_named(out, "nodes", directory_text(&nodes))
+    write_named(alloc, out, "root", config.global.root_path().as_str())?;
+    write_named(alloc, out, "services", directory_text(&services))?;
+    write_named(alloc, out, "nodes", directory_text(&nodes))
 }
 
 /// The path of a directory, or why there is none.
@@ -178,12 +198,13 @@ fn directory_text(directory: &Result<Path, SemanticStringError>) -> &str
     }
 }
 
-/// Appends a name, filled with spaces to 22 characters, and what stands beside it.
-fn write_named(out: &mut String, name: &str, text: &str) -> Result<(), AllocError>
+/// Appends a name, filled with spaces to 22 characters, and what stands beside it, as a line.
+fn write_named(alloc: Global, out: &mut String, name: &str, text: &str) -> Result<(), AllocError>
     ensures { OnOk result
         (string_bytes out.new ≡ string_bytes out.old ++ named_line name.now text.now) }
 {
-    write!(out, "  {name:<22} {text}\n")
+    let line = format!(in alloc; "  {name:<22} {text}")?;
+    write_printable_line(out, line.as_str())
 }
 
 /// A kind of files.
@@ -227,6 +248,7 @@ fn kinds<'a>(service: &'a Service, node: &'a Node) -> [FileKind<'a>; 12]
 
 /// Appends a line for each kind of files: how their names begin and end.
 fn write_kinds(
+    alloc: Global,
     out: &mut String,
     prefix: &FileName,
     kinds: &[FileKind<'_>],
@@ -236,13 +258,14 @@ fn write_kinds(
 {
     for kind in kinds {
         let FileKind { name, suffix } = *kind;
-        write!(out, "  {name:<22} {prefix}*{suffix}\n")?;
+        let names = format!(in alloc; "{prefix}*{suffix}")?;
+        write_named(alloc, out, name, names.as_str())?;
     }
     Ok(())
 }
 
 /// Appends the names of files.
-fn write_files(out: &mut String, config: &Config) -> Result<(), AllocError>
+fn write_files(alloc: Global, out: &mut String, config: &Config) -> Result<(), AllocError>
     ensures { OnOk result (string_bytes out.new ≡ string_bytes out.old ++ files_text config.now) }
 {
     let kinds = kinds(&config.global.service, &config.global.node);
@@ -250,7 +273,7 @@ fn write_files(out: &mut String, config: &Config) -> Result<(), AllocError>
         out,
         "\nfiles, with * for what the configuration does not fix\n"
     )?;
-    write_kinds(out, &config.global.prefix, &kinds)
+    write_kinds(alloc, out, &config.global.prefix, &kinds)
 }
 
 /// How many samples of a publisher can be in use at once.

@@ -1,9 +1,6 @@
--- What is made of the items of a list, one after the other: of findings, of the characters of a
--- text, of the keys of a table, of files, and of the words of the command line.
-use Rattle.std.proofs.Common.{◌≡◌, ℕ, true, ◌+◌, List, [], ◌∷◌, ◌++◌, length, map, append_assoc, append-nil, arith, IsUtf8, chars, encode_utf8, ◌≤◌, ◌<◌, false, Bool, drop, get_or, drop_of_length-le, refl, sym, ap, ◌∙◌, subst, Result, string_bytes, Option, Some, None}
-use Rattle.std.specs.Prelude.{flat_map, String, IsSome, ◌↔◌, option_to_list}
-use Rattle.std.proofs.lemmas.Str.{chars-nil, chars_past_char}
-use Rattle.settings_check.specs.Lines.{printable, printable_char}
+-- What is made of the items of a list, one after the other: of findings, of the keys of a table, of files, and of the words of the command line.
+use Rattle.std.proofs.Common.{◌≡◌, ℕ, true, ◌+◌, List, [], ◌∷◌, ◌++◌, length, map, append_assoc, append-nil, arith, ◌≤◌, ◌<◌, false, Bool, drop, get_or, drop_of_length-le, refl, sym, ap, ◌∙◌, subst, Result, string_bytes, Option, Some, None}
+use Rattle.std.specs.Prelude.{String, IsSome, ◌↔◌, option_to_list}
 use Rattle.iox2_config_file.specs.declared.section.Row.{Row}
 use Rattle.iox2_config_file.specs.declared.section.Section.{Section}
 use Rattle.settings_check.specs.Schema.{comma_if, properties, property}
@@ -38,25 +35,6 @@ three old a b c first second new e f g = grind (arith, append_assoc)
 pub five : (a b c d e n0 n1 n2 n3 n4 : List ℕ) → n0 ≡ a → n1 ≡ n0 ++ b → n2 ≡ n1 ++ c
     → n3 ≡ n2 ++ d → n4 ≡ n3 ++ e → n4 ≡ a ++ (b ++ (c ++ (d ++ e)))
 five a b c d e n0 n1 n2 n3 n4 p q r s t = grind (arith, three, append_assoc)
-
--- one character more is written
-pub printed_next : (text rest : List ℕ) (c : ℕ) (out new whole : List ℕ) → IsUtf8 text
-    → text ≡ encode_utf8 c ++ rest → out ++ flat_map printable_char (chars text) ≡ whole
-    → new ≡ out ++ printable_char c → new ++ flat_map printable_char (chars rest) ≡ whole
-printed_next text rest c out new whole utf8 parts before wrote =
-    grind (arith, chars, append_assoc, chars_past_char)
-
--- an empty text has no characters
-pub chars_end : (text : List ℕ) → length text ≡ 0 → chars text ≡ []
-chars_end [] none = chars-nil
-chars_end (c ∷ cs) none = absurd (omega arith)
-
--- where no character is left, all are written
-pub printed_end : (rest first text : List ℕ) (out before : List ℕ)
-    → out ++ flat_map printable_char (chars rest)
-    ≡ before ++ flat_map printable_char (chars first)
-    → length rest ≡ 0 → first ≡ text → out ≡ before ++ printable text
-printed_end rest first text out before same none all = grind (arith, append-nil, chars_end, chars)
 
 -- one key more is written
 pub property_next : (s : Section) (rows : List Row) (i : ℕ) (d : Row) (is_first : Bool)

@@ -1,11 +1,10 @@
 -- How findings are written, without control characters.
-use Rattle.std.specs.Prelude.{ℕ, false, List, ◌++◌, codes, flat_map, if◌then◌else◌, encode_utf8, Bool, true, not, nat_eq, [], ◌∷◌, count_by, Option, Some, None, option_map}
-use Rattle.std.specs.Str.{chars}
-use Rattle.std.specs.Char.{is_control}
-use Rattle.std.specs.Fmt.{digits, decimal}
+use Rattle.std.specs.Prelude.{ℕ, false, List, ◌++◌, codes, flat_map, if◌then◌else◌, Bool, true, not, nat_eq, [], ◌∷◌, count_by, Option, Some, None, option_map}
+use Rattle.std.specs.Fmt.{decimal}
 use Rattle.serde_json.specs.Data.{Data, null, number, unsigned, string, object, member, no_members}
 use Rattle.serde_json.specs.Written.{compact_text}
 use Rattle.config_report.specs.Notes.{note_text, severity_text}
+use Rattle.config_report.specs.Printable.{printable, printable_line}
 use Rattle.config_report.specs.declared.finding.Severity.{Severity}
 use Rattle.config_report.specs.declared.finding.Severity.TheVariants.{Error, Warning}
 use Rattle.settings_check.specs.Found.{why_text, Said}
@@ -16,15 +15,6 @@ use Rattle.settings_check.specs.declared.lines.Omitted.{Omitted}
 use Rattle.settings_check.specs.declared.lines.Style.{Style}
 use Rattle.settings_check.specs.declared.lines.Style.TheVariants as style
 use Rattle.toml_positions.specs.declared.position.Position.{Position}
-
--- a character, or `\u{..}` with its code where it is a control character
-abbrev pub printable_char : ℕ → List ℕ
-printable_char c =
-    if is_control c then codes "\\u{" ++ (digits 16 false c ++ codes "}") else encode_utf8 c
-
--- a text, each character of it so
-abbrev pub printable : List ℕ → List ℕ
-printable text = flat_map printable_char (chars text)
 
 -- what stands between the name of a file and what is said of it
 abbrev pub gap : Option Position → List ℕ
@@ -119,4 +109,4 @@ end_text way omitted said = counts_text omitted said
 
 -- the line of a file that cannot be read
 abbrev pub unread_line : List ℕ × FileError → List ℕ
-unread_line (file, why) = printable (file ++ (codes ": " ++ why_text why)) ++ codes "\n"
+unread_line (file, why) = printable_line (file ++ (codes ": " ++ why_text why))

@@ -5,11 +5,11 @@ ghost use Rattle.settings_check.specs.Found.{report_of, reports_of, unread_of};
 ghost use Rattle.settings_check.specs.Lines.{style_of, colour_of, text_of, line_in, lines_in};
 ghost use Rattle.settings_check.specs.Lines.{note_data, number_data, key_data, is_error, errors_in};
 ghost use Rattle.settings_check.specs.Lines.{warnings_in, plural, end_text, unread_line};
-ghost use Rattle.settings_check.specs.Lines.{note_if, omitted_text, printable, printable_char};
+ghost use Rattle.settings_check.specs.Lines.{note_if, omitted_text};
 
 use crate::arguments::Format;
 use crate::found::{Report, Unread, why_text};
-use config_report::{Finding, Position, Severity};
+use config_report::{Finding, Position, Severity, write_printable, write_printable_line};
 use serde_json::{Value, json};
 use std::alloc::{AllocError, Global};
 use std::fmt;
@@ -43,29 +43,6 @@ fn colour_of(severity: Severity) -> &'static str
     match severity {
         Severity::Error => "\x1b[31m",
         Severity::Warning => "\x1b[33m",
-    }
-}
-
-/// Appends a text with its control characters escaped.
-#[tactic(auto, using(crate::proofs::Lists::printed_end))]
-pub(crate) fn write_printable(out: &mut String, text: &str) -> Result<(), AllocError>
-    ensures { OnOk result (string_bytes out.new ≡ string_bytes out.old ++ printable text.now) }
-{
-    for c in text.chars() {
-        write_char(out, c)?;
-    }
-    Ok(())
-}
-
-/// Appends a character, escaped if it is a control character.
-fn write_char(out: &mut String, c: char) -> Result<(), AllocError>
-    ensures { OnOk result (string_bytes out.new ≡ string_bytes out.old ++ printable_char c) }
-{
-    if c.is_control() {
-        let code = c as u32;
-        write!(out, "\\u{{{code:x}}}")
-    } else {
-        out.push(c)
     }
 }
 
@@ -278,8 +255,7 @@ fn write_unread_line(alloc: Global, out: &mut String, unread: Unread<'_>) -> Res
     let file = unread.file;
     let why = why_text(unread.why);
     let line = format!(in alloc; "{file}: {why}")?;
-    write_printable(out, line.as_str())?;
-    out.push_str("\n")
+    write_printable_line(out, line.as_str())
 }
 
 /// Appends a line for each file that cannot be read.

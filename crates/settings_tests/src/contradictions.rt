@@ -5,7 +5,7 @@ use std::alloc::{AllocError, Global};
 use std::test::Fail;
 
 /// Files, and what is said of each, without its name.
-const CONTRADICTIONS: [(&[u8], &str); 9] = [
+const CONTRADICTIONS: [(&[u8], &str); 10] = [
     (
         b"defaults.event.notifier-created-event = 256\n",
         ":1:1: warning: defaults.event.notifier-created-event: is 256, and \
@@ -25,6 +25,11 @@ const CONTRADICTIONS: [(&[u8], &str); 9] = [
         b"[global]\nroot-path = 'tmp/x'\n",
         ":2:1: warning: global.root-path: is \"tmp/x\": a path that does not begin with / is \
          another one in each working directory",
+    ),
+    (
+        b"[global]\nroot-path = \"C:\\temp\\new\"\n",
+        ":2:1: warning: global.root-path: is \"\"\"\\u{a}C:\\temp\\u{a}ew\"\"\": a path that does not \
+         begin with / is another one in each working directory",
     ),
     (
         b"global.service.connection-suffix = '.data'\n",

@@ -91,7 +91,7 @@ const MISSPELT: [(&str, &str); 18] = [
     ),
     (
         "[global]\n'a\tb\"' = 1\n",
-        "2:1: warning: a text with control characters: this table has no such key",
+        "2:1: warning: global.'a\\u{9}b\"': this table has no such key",
     ),
 ];
 

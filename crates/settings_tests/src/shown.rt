@@ -17,10 +17,33 @@ fn settings_are_shown_with_what_follows(rt: HostRuntime) -> Result<(), Fail> {
         "\n  defaults.event.deadline = not set\n",
         CONSEQUENCES,
     ] {
-        let found = output
-            .windows(part.len())
-            .any(|piece| piece == part.as_bytes());
-        assert!(rt; found, "{part}");
+        assert!(rt; has_part(output.as_slice(), part), "{part}");
     }
+    Ok(())
+}
+
+/// Whether the bytes have this part.
+fn has_part(bytes: &[u8], part: &str) -> bool {
+    bytes
+        .windows(part.len())
+        .any(|piece| piece == part.as_bytes())
+}
+
+#[test]
+fn control_characters_are_shown_escaped(rt: HostRuntime) -> Result<(), Fail> {
+    let own: &[u8] = b"[global]\nroot-path = \"/\\u001b[31m\\u0007\"\nprefix = \"a\\tb\\nc\"\n";
+    let files = Known(&[("own.toml", own)]);
+    let (status, output, _) = run(rt.alloc(), false, &["--show", "own.toml"], files, b"")?;
+    assert_eq!(rt; status, 0);
+    for part in [
+        "\n! global.root-path = \"/\\u001B[31m\\u0007\", by default \"/tmp/iceoryx2/\"\n",
+        "\n! global.prefix = \"\"\"\\u{a}a\\tb\\u{a}c\"\"\", by default \"iox2_\"\n",
+        "\n  root                   /\\u{1b}[31m\\u{7}\n",
+        "\n  static configuration   a\\u{9}b\\u{a}c*.service\n",
+    ] {
+        assert!(rt; has_part(output.as_slice(), part), "{part}");
+    }
+    let lines = output.as_slice().split(|byte| *byte == b'\n');
+    assert!(rt; lines.flatten().all(|byte| 32 <= *byte));
     Ok(())
 }

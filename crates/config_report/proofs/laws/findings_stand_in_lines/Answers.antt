@@ -1,4 +1,4 @@
-use Rattle.config_report.proofs.Printable.{checks_in_line}
+use Rattle.config_report.proofs.Characters.{checks_in_line}
 use Rattle.config_report.proofs.laws.findings_stand_in_lines.Goals as goal
 
 pub returns : goal.returns

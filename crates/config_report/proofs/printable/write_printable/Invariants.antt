@@ -1,8 +1,8 @@
 use Rattle.std.proofs.Common.{◌≡◌, ◌++◌, IsUtf8, chars, string_bytes}
 use Rattle.std.specs.Prelude.{flat_map}
 use Rattle.std.specs.Str.Iter.{chars_rest}
-use Rattle.settings_check.specs.Lines.{printable_char}
-use Rattle.settings_check.proofs.lines.write_printable.Given as goal
+use Rattle.config_report.specs.Printable.{printable_char}
+use Rattle.config_report.proofs.printable.write_printable.Given as goal
 
 abbrev pub invariant-loop-c : goal.invariant-loop-c
 invariant-loop-c l =

@@ -1,6 +1,6 @@
 use Rattle.std.proofs.lemmas.Str.{IsUtf8-past_char}
-use Rattle.settings_check.proofs.Lists.{printed_next}
-use Rattle.settings_check.proofs.lines.write_printable.Goals as goal
+use Rattle.config_report.proofs.Characters.{printed_next}
+use Rattle.config_report.proofs.printable.write_printable.Goals as goal
 
 pub loop-c-preserved : goal.loop-c-preserved
 loop-c-preserved c =
