@@ -5,8 +5,8 @@ use Rattle.iox2_container.specs.declared.container.cell.Cell.TheVariants.{Taken,
 use Rattle.iox2_container.specs.declared.container.cell.Occupant.{Occupant}
 
 -- the cells of slots, how many there is memory for, and how often one was read or written
-pub record Cells (C : Type 0) : Type 0 where
-  pub cells : List C
+pub record Cells (T N : Type 0) : Type 0 where
+  pub cells : List (Cell T N)
   pub room : ℕ
   pub touches : ℕ
 

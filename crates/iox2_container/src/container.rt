@@ -22,5 +22,4 @@ pub use registry::{Attached, Registry, entries};
 pub use release::{ReleaseMode, ReleaseState};
 pub use role::Role;
 pub use service_numbers::ServiceNumbers;
-pub use slot_map::slots::Slots;
 pub use slot_map::{Container, ListContainer};
