@@ -11,7 +11,7 @@ use Rattle.std.specs.contracts.prelude.OptionDebug.TheImpl as OptionDebug
 use Rattle.std.specs.contracts.prelude.UsizeDebug.TheImpl as UsizeDebug
 use Rattle.std.specs.declared.clone.Clone.{Ghosts as CloneGhosts}
 use Rattle.std.specs.declared.fmt.Debug.{Ghosts as DebugGhosts}
-use Rattle.iox2_container.specs.contracts.container.cell.Cell as Cell
+use Rattle.iox2_container.specs.contracts.container.slot_map.slots.Cell as Cell
 use Rattle.iox2_container.specs.contracts.container.free.FreeList as FreeList
 use Rattle.iox2_container.specs.contracts.container.free.FreeListSlotAllocator.TheImpl as FreeListSlotAllocator
 use Rattle.iox2_container.specs.contracts.container.slot_map.SlotMap as SlotMap
