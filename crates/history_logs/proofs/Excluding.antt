@@ -13,7 +13,7 @@ use Rattle.iox2_dynamic.specs.Steps.{DeadStep}
 use Rattle.iox2_ids.specs.PortId.{port_value}
 use Rattle.service_conformance.specs.Judged.{IsList, JudgedStep}
 use Rattle.service_conformance.specs.Looks.{unwatched}
-use Rattle.service_descriptions.specs.Cleanups.{CleanedUp, ServesDead, action_for}
+use Rattle.service_descriptions.specs.Steps.{CleanedUp, ServesDead, action_for}
 use Rattle.service_descriptions.specs.declared.replay.machine.command.Cleanup.TheVariants.{ByPort}
 use Rattle.service_descriptions.specs.declared.replay.machine.reply.Reply.{Reply}
 use Rattle.service_descriptions.specs.declared.replay.machine.reply.Reply.TheVariants as reply

@@ -3,10 +3,10 @@ use Rattle.history_logs.proofs.Words.{AllZip, Begins, Begun, Judged, List, Named
 use Rattle.std.proofs.lemmas.List.Elements.{AllZip-push}
 use Rattle.iox2_config.specs.declared.hash.input.PatternKind.{PatternKind}
 use Rattle.iox2_config.specs.declared.hash.input.PatternKind.TheVariants as kind
-use Rattle.iox2_container.specs.declared.container.role.Role.{Role}
-use Rattle.iox2_container.specs.declared.container.role.Role.TheVariants as role
+use Rattle.iox2_container.specs.declared.container.handle.Role.{Role}
+use Rattle.iox2_container.specs.declared.container.handle.Role.TheVariants as role
 use Rattle.iox2_dynamic.specs.Service as dynamic
-use Rattle.iox2_container.specs.Handle.{Handle}
+use Rattle.iox2_container.specs.State.{Handle}
 use Rattle.log_lines.specs.Commands.NamedCommand.{deregister, release}
 use Rattle.service_conformance.specs.Calls.{call_of}
 use Rattle.service_conformance.specs.declared.conformance.possible.Part.TheVariants as part

@@ -32,7 +32,7 @@ pub use Rattle.histories.specs.Windows.{IsStop, IsWindowOf}
 pub use Rattle.histories.specs.declared.window.Stop.{Stop}
 pub use Rattle.histories.specs.declared.window.Window.{Window}
 pub use Rattle.iox2_container.proofs.Lists.{get_set_other}
-pub use Rattle.iox2_container.specs.Handle.{Handle}
+pub use Rattle.iox2_container.specs.State.{Handle}
 pub use Rattle.iox2_container.specs.Steps.{listed}
 pub use Rattle.line_streams.specs.OneWay.{before_one}
 pub use Rattle.line_streams.specs.Spelling.{HasNo}

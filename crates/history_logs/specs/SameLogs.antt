@@ -2,7 +2,7 @@
 use Rattle.std.specs.Prelude.{◌≡◌, ℕ, List, Option, Some, None}
 use Rattle.std.specs.Global.{Vec}
 use Rattle.std.specs.List.{AllZip}
-use Rattle.iox2_container.specs.Handle.{Handle}
+use Rattle.iox2_container.specs.State.{Handle}
 use Rattle.log_lines.specs.Commands.{NamedCommand}
 use Rattle.log_lines.specs.Commands.NamedCommand.{numbered}
 use Rattle.service_conformance.specs.declared.conformance.seen_reply.SeenReply.{SeenReply}

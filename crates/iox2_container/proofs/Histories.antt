@@ -1,7 +1,7 @@
 -- What each change leaves as it was, adds and takes out, and what follows for histories of changes
 -- and of numbers.
 use Rattle.iox2_container.proofs.Prelude.{AddStep, Adding, All, All-cons, All-head, All-nil, All-tail, All-weaker, AllPairs, AllPairs-cons, Any, Bool, Change, ChangeStep, ContainerAddFailure, ContainerRemoveError, Contains, Enters, Entry, Err, Handle, HasEntry, History, IsLocked, IsNew, IsRefused, IsRegistry, Leaves, List, Ok, OutOfSpace, Recovering, Recovers, RegistryState, ReleaseMode, ReleaseState, Remains, RemoveStep, Removing, Result, TakesOut, [], ap, arith, cons_option, handle_given_by, handle_of, handles_given, inl, inr, leaving, map, refl, rules, sym, ℕ, ◌++◌, ◌<◌, ◌↔◌, ◌∙◌, ◌∷◌, ◌≡◌, ◌≢◌, ◌≤◌, ◌⊎◌}
-use Rattle.iox2_container.specs.declared.container.refusal.ContainerRemoveError.TheVariants.{ContainerHandleNotOwnedByContainer}
+use Rattle.iox2_container.specs.declared.container.registry.ContainerRemoveError.TheVariants.{ContainerHandleNotOwnedByContainer}
 use Rattle.iox2_container.specs.ServiceNumbers.{ReturnInTurn, NumbersRise}
 use Rattle.iox2_container.proofs.Lists.{Among, DifferBy, among_contained, among_less, among_more, contains_among, gained, moved, other_differs, of_all, first_or_other, without}
 use Rattle.iox2_container.proofs.SameEntries.{leaves_among, stays_among, stays_apart, stays_or_leaves}

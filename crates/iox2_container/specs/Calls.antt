@@ -7,17 +7,14 @@ use Rattle.std.specs.List.Sorted.{IsPermutation}
 use Rattle.std.specs.Cmp.Lexicographic.{pointwise}
 use Rattle.iox2_container.specs.declared.container.comparison.RegistryCall.TheVariants as Call
 use Rattle.iox2_container.specs.declared.container.comparison.RegistryReply.TheVariants as Reply
-use Rattle.iox2_container.specs.declared.container.refusal.ContainerAddFailure.{ContainerAddFailure}
-use Rattle.iox2_container.specs.declared.container.refusal.ContainerRemoveError.{ContainerRemoveError}
-use Rattle.iox2_container.specs.declared.container.release.ReleaseMode.{ReleaseMode}
-use Rattle.iox2_container.specs.declared.container.release.ReleaseState.{ReleaseState}
+use Rattle.iox2_container.specs.declared.container.registry.ContainerAddFailure.{ContainerAddFailure}
+use Rattle.iox2_container.specs.declared.container.registry.ContainerRemoveError.{ContainerRemoveError}
+use Rattle.iox2_container.specs.declared.container.registry.ReleaseMode.{ReleaseMode}
+use Rattle.iox2_container.specs.declared.container.registry.ReleaseState.{ReleaseState}
 use Rattle.iox2_container.specs.declared.container.comparison.RegistryCall.{RegistryCall}
 use Rattle.iox2_container.specs.declared.container.comparison.RegistryReply.{RegistryReply}
-use Rattle.iox2_container.specs.Handle.{Handle}
-use Rattle.iox2_container.specs.State.{IsRegistry}
-use Rattle.iox2_container.specs.ContainerState.{ContainerState}
-use Rattle.iox2_container.specs.Changes.{Adds, Removes, RecoversBy}
-use Rattle.iox2_container.specs.Steps.{is_of, listed}
+use Rattle.iox2_container.specs.State.{Handle, IsRegistry, ContainerState}
+use Rattle.iox2_container.specs.Steps.{Adds, Removes, RecoversBy, is_of, listed}
 
 -- the handle in a reply
 abbrev pub handle_in : {T : Type 0} → Option (RegistryReply T) → Option Handle

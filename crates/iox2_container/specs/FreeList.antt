@@ -1,10 +1,9 @@
 -- Free slots in a list that is linked through their cells.
 use Rattle.std.specs.Prelude.{◌≡◌, ◌≢◌, ℕ, ◌+◌, ◌≤◌, ◌<◌, Option, Some, None, List, [], ◌∷◌, length, map, slice_get, All, ⊤}
-use Rattle.iox2_container.specs.declared.container.cell.Cell.{Cell}
-use Rattle.iox2_container.specs.declared.container.cell.Cell.TheVariants.{Taken, Free}
+use Rattle.iox2_container.specs.declared.container.slot_map.slots.Cell.{Cell}
+use Rattle.iox2_container.specs.declared.container.slot_map.slots.Cell.TheVariants.{Taken, Free}
 use Rattle.iox2_container.specs.declared.container.free.FreeList.{FreeList}
-use Rattle.iox2_container.specs.SlotEntries.{entries_from}
-use Rattle.iox2_container.specs.Cells.{shown}
+use Rattle.iox2_container.specs.Cells.{entries_from, shown}
 
 -- a cell that names the next free slot, where it is free
 abbrev pub Linked : Type 0 → Type 0

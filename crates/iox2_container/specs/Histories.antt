@@ -1,13 +1,12 @@
 -- What holds over every list of changes of a registry.
 use Rattle.std.specs.Prelude.{◌≡◌, ℕ, Bool, false, Option, Some, None, Result, Ok, Err}
 use Rattle.std.specs.Prelude.{List, [], ◌∷◌, ◌++◌, map, All, Contains, filter_map}
-use Rattle.iox2_container.specs.declared.container.refusal.ContainerAddFailure.{ContainerAddFailure}
-use Rattle.iox2_container.specs.declared.container.refusal.ContainerRemoveError.{ContainerRemoveError}
-use Rattle.iox2_container.specs.declared.container.refusal.ContainerRemoveError.TheVariants.{ContainerHandleNotOwnedByContainer}
-use Rattle.iox2_container.specs.declared.container.release.ReleaseMode.{ReleaseMode}
-use Rattle.iox2_container.specs.declared.container.release.ReleaseState.{ReleaseState}
-use Rattle.iox2_container.specs.Handle.{Handle}
-use Rattle.iox2_container.specs.State.{RegistryState, IsRegistry, handle_of}
+use Rattle.iox2_container.specs.declared.container.registry.ContainerAddFailure.{ContainerAddFailure}
+use Rattle.iox2_container.specs.declared.container.registry.ContainerRemoveError.{ContainerRemoveError}
+use Rattle.iox2_container.specs.declared.container.registry.ContainerRemoveError.TheVariants.{ContainerHandleNotOwnedByContainer}
+use Rattle.iox2_container.specs.declared.container.registry.ReleaseMode.{ReleaseMode}
+use Rattle.iox2_container.specs.declared.container.registry.ReleaseState.{ReleaseState}
+use Rattle.iox2_container.specs.State.{Handle, RegistryState, IsRegistry, handle_of}
 use Rattle.iox2_container.specs.Steps.{AddStep, RemoveStep, Recovers, HasEntry, CalledInTurn, details_where, marks_of, leaving}
 
 -- a change that was requested, and its result

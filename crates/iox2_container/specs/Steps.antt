@@ -1,16 +1,31 @@
--- What the calls on a registry do.
-use Rattle.std.specs.Prelude.{◌≡◌, ◌≢◌, ℕ, zero, suc, ◌+◌, ◌<◌, ◌≤◌, ◌==◌, ◌⊎◌, Bool, true, false, if◌then◌else◌, not, ◌&&◌, Result, Ok, Err, List, [], ◌∷◌, ◌++◌, length, map, filter, All}
+-- What the calls on a registry do, when callbacks may be called in them, and what is true of a
+-- container after each change.
+use Rattle.std.specs.Prelude.{List, [], ◌∷◌, ⊤, ◌≡◌, ◌≢◌, ℕ, zero, suc, ◌+◌, ◌<◌, ◌≤◌, ◌==◌, ◌⊎◌, Bool, true, false, if◌then◌else◌, not, ◌&&◌, Result, Ok, Err, ◌++◌, length, map, filter, All}
+pub use Rattle.iox2_texts.specs.Callbacks.{MayVisit, CanVisit}
 use Rattle.iox2_texts.specs.Attribute.{Visits}
 use Rattle.iox2_texts.specs.declared.bounded.CallbackProgression.{CallbackProgression}
-use Rattle.iox2_container.specs.declared.container.refusal.ContainerAddFailure.{ContainerAddFailure}
-use Rattle.iox2_container.specs.declared.container.refusal.ContainerAddFailure.TheVariants.{IsLocked, OutOfSpace}
-use Rattle.iox2_container.specs.declared.container.refusal.ContainerRemoveError.{ContainerRemoveError}
-use Rattle.iox2_container.specs.declared.container.release.ReleaseMode.{ReleaseMode}
-use Rattle.iox2_container.specs.declared.container.release.ReleaseMode.TheVariants.{Default, LockIfLastIndex}
-use Rattle.iox2_container.specs.declared.container.release.ReleaseState.{ReleaseState}
-use Rattle.iox2_container.specs.declared.container.release.ReleaseState.TheVariants.{Locked, Unlocked}
-use Rattle.iox2_container.specs.Handle.{Handle}
-use Rattle.iox2_container.specs.State.{Entry, RegistryState, handle_of}
+use Rattle.iox2_container.specs.declared.container.registry.ContainerAddFailure.{ContainerAddFailure}
+use Rattle.iox2_container.specs.declared.container.registry.ContainerAddFailure.TheVariants.{IsLocked, OutOfSpace}
+use Rattle.iox2_container.specs.declared.container.registry.ContainerRemoveError.{ContainerRemoveError}
+use Rattle.iox2_container.specs.declared.container.registry.ReleaseMode.{ReleaseMode}
+use Rattle.iox2_container.specs.declared.container.registry.ReleaseMode.TheVariants.{Default, LockIfLastIndex}
+use Rattle.iox2_container.specs.declared.container.registry.ReleaseState.{ReleaseState}
+use Rattle.iox2_container.specs.declared.container.registry.ReleaseState.TheVariants.{Locked, Unlocked}
+use Rattle.iox2_container.specs.State.{Handle, Entry, RegistryState, handle_of, ContainerState, Touched, IsRegistry}
+
+-- the callback may be called on each item in order: on the first in the state f, and on each later
+-- one in every state that the call on the one before it may leave
+abbrev pub MayCall : {F A R : Type 0} → (F → A → Type 0) → (F → A → R → F → Type 0) → F → List A
+    → Type 0
+MayCall takes calls f [] = ⊤
+MayCall {F} {A} {R} takes calls f (item ∷ items) =
+    takes f item × ((answer : R) (g : F) → calls f item answer g → MayCall takes calls g items)
+
+-- the callback may be called on each item in order, whatever it returns; a record round `MayCall`,
+-- so that a proof finds the calls in it
+pub record CanBeCalled {F A R : Type 0} (takes : F → A → Type 0) (calls : F → A → R → F → Type 0)
+    (f : F) (items : List A) : Type 0 where
+  pub may_call : MayCall takes calls f items
 
 -- the new entries are the old ones and x
 pub record InsertsOne {T : Type 0} (old new : List (Entry T)) (x : Entry T) : Type 0 where
@@ -155,3 +170,26 @@ pub record RecoverStep {T F : Type 0} (calls : F → T → Bool → F → Type 0
   pub called : CalledInTurn calls f (details_where is_dead old)
       (marks_of is_dead marked old.entries) f'
   pub recovers : Recovers is_dead marked old mode state new
+
+-- a step led to a registry, and touched the slots at most twice as often as there are slots
+pub record Changes {T : Type 0} (Step : RegistryState T → RegistryState T → Type 0)
+    (old new : ContainerState T) : Type 0 where
+  pub step : Step old.registry new.registry
+  pub kept : IsRegistry new.registry
+  pub touched : Touched old new
+
+-- what adding an entry may do
+abbrev pub Adds : {T : Type 0} → ContainerState T → T → Result Handle ContainerAddFailure
+    → ContainerState T → Type 0
+Adds old details answer new = Changes (λ r s. AddStep r details answer s) old new
+
+-- what removing an entry may do
+abbrev pub Removes : {T : Type 0} → ContainerState T → Handle → ReleaseMode
+    → Result ReleaseState ContainerRemoveError → ContainerState T → Type 0
+Removes old handle mode answer new = Changes (λ r s. RemoveStep r handle mode answer s) old new
+
+-- what recovering entries may do, where `calls` are the calls of the callback
+abbrev pub RecoversBy : {F T : Type 0} → (F → T → Bool → F → Type 0) → (T → Bool)
+    → ContainerState T → F → ReleaseMode → ReleaseState → ContainerState T → F → Type 0
+RecoversBy calls is_dead old f mode state new f' =
+    Changes (λ r s. RecoverStep calls is_dead r f mode state s f') old new

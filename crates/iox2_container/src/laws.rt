@@ -2,8 +2,7 @@
 //! `clone` see the values that it takes and gives.
 ghost use Rattle.std.specs.Prelude.{◌≡◌, ◌↔◌, ◌≢◌, Bool, IsTrue, IsOkAnd, List, AllPairs, Any};
 ghost use Rattle.std.specs.Fn.{CalledAt};
-ghost use Rattle.iox2_container.specs.Handle.{Handle};
-ghost use Rattle.iox2_container.specs.State.{RegistryState};
+ghost use Rattle.iox2_container.specs.State.{Handle, RegistryState};
 ghost use Rattle.iox2_container.specs.Steps.{RecoverStep, HasEntry};
 ghost use Rattle.iox2_container.specs.Histories.{Change, History, IsNew, IsRecoveryChange};
 ghost use Rattle.iox2_container.specs.Histories.{IsRefused, Remains, TakesOut, handles_given};

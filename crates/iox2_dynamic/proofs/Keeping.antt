@@ -10,10 +10,10 @@ use Rattle.std.proofs.lemmas.Bool.Decides.{nat_tests}
 use Rattle.iox2_container.proofs.Counting.{counted, counted-InsertsOne, All-other, counted-staying}
 use Rattle.iox2_container.proofs.Histories.{grows_add}
 use Rattle.iox2_container.proofs.Lists.{one_by_ticket}
-use Rattle.iox2_container.specs.declared.container.refusal.ContainerRemoveError.{ContainerRemoveError}
+use Rattle.iox2_container.specs.declared.container.registry.ContainerRemoveError.{ContainerRemoveError}
 use Rattle.iox2_dynamic.specs.declared.dynamic_config.answers.DeregisterNodeState.TheVariants.{HasOwners}
-use Rattle.iox2_dynamic.specs.Answers.{state_of}
-use Rattle.iox2_container.specs.declared.container.role.Role.TheVariants as role
+use Rattle.iox2_dynamic.specs.Steps.{state_of}
+use Rattle.iox2_container.specs.declared.container.handle.Role.TheVariants as role
 
 fresh_registry : {T : Type 0} (service : ℕ) (role : Role) (capacity tickets : ℕ)
     → IsRegistry (fresh {T = T} service role capacity tickets).registry

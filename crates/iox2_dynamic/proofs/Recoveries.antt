@@ -6,7 +6,7 @@ use Rattle.std.specs.Fn.{Mut, Called}
 use Rattle.iox2_container.proofs.Mapped.{RecoverStep-as, RecoversBy-through, Changes-as, entries_of-as}
 use Rattle.std.proofs.lemmas.Bool.Decides.{nat_tests}
 use Rattle.std.proofs.lemmas.List.Sums.{sum_by-cons}
-use Rattle.iox2_container.specs.declared.container.release.ReleaseMode.{ReleaseMode}
+use Rattle.iox2_container.specs.declared.container.registry.ReleaseMode.{ReleaseMode}
 use Rattle.iox2_container.proofs.Counting.{counted, one_if, counted-cons}
 
 pub RecoversPorts-as : {F T : Type 0} (calls : F → UniquePortId → PortCleanupAction → F → Type 0)

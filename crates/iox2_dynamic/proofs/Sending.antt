@@ -7,14 +7,14 @@ use denote.Param.SendFields.{declared_send}
 use Rattle.std.specs.declared.clone.Clone.{Ghosts as CloneGhosts}
 use Rattle.iox2_ids.specs.contracts.identifiers.unique_id.UniqueNodeId as NodeId
 use Rattle.iox2_container.proofs.Sending.{ListContainer-send}
-use Rattle.iox2_dynamic.specs.contracts.dynamic_config.details.ClientDetails as Client
-use Rattle.iox2_dynamic.specs.contracts.dynamic_config.details.ListenerDetails as Listener
-use Rattle.iox2_dynamic.specs.contracts.dynamic_config.details.NotifierDetails as Notifier
-use Rattle.iox2_dynamic.specs.contracts.dynamic_config.details.PublisherDetails as Publisher
-use Rattle.iox2_dynamic.specs.contracts.dynamic_config.details.ReaderDetails as Reader
-use Rattle.iox2_dynamic.specs.contracts.dynamic_config.details.ServerDetails as Server
-use Rattle.iox2_dynamic.specs.contracts.dynamic_config.details.SubscriberDetails as Subscriber
-use Rattle.iox2_dynamic.specs.contracts.dynamic_config.details.WriterDetails as Writer
+use Rattle.iox2_dynamic.specs.contracts.dynamic_config.port_details.ClientDetails as Client
+use Rattle.iox2_dynamic.specs.contracts.dynamic_config.port_details.ListenerDetails as Listener
+use Rattle.iox2_dynamic.specs.contracts.dynamic_config.port_details.NotifierDetails as Notifier
+use Rattle.iox2_dynamic.specs.contracts.dynamic_config.port_details.PublisherDetails as Publisher
+use Rattle.iox2_dynamic.specs.contracts.dynamic_config.port_details.ReaderDetails as Reader
+use Rattle.iox2_dynamic.specs.contracts.dynamic_config.port_details.ServerDetails as Server
+use Rattle.iox2_dynamic.specs.contracts.dynamic_config.port_details.SubscriberDetails as Subscriber
+use Rattle.iox2_dynamic.specs.contracts.dynamic_config.port_details.WriterDetails as Writer
 use Rattle.iox2_dynamic.specs.contracts.dynamic_config.pattern.MessagingPattern as MessagingPattern
 use Rattle.iox2_dynamic.specs.contracts.dynamic_config.pattern.PortRegistries as PortRegistries
 use Rattle.iox2_dynamic.specs.contracts.dynamic_config.pattern.PortRegistries.TheInside as PortsInside

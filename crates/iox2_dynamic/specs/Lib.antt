@@ -3,10 +3,7 @@
 pub mod Details
 pub mod Service
 pub mod Ports
-pub mod PortsState
 pub mod Steps
-pub mod Recoveries
-pub mod Answers
 -- Inner facts: the names that these files share, and how private fields make
 -- what contracts see of a service.
 pub mod Prelude

@@ -1,14 +1,69 @@
--- The ports of a service, and what the calls on them do.
-use Rattle.iox2_dynamic.specs.Prelude.{Adds, ContainerAddFailure, ContainerRemoveError, ContainerState, Default, Handle, HasEntry, IsUnknownHandle, PortCleanupAction, PortDetails, RegistryState, ReleaseState, Removes, Role, TakesEntry, UniquePortId, Visit, details_where, entries_of, fresh, is_of, listed}
-use Rattle.std.specs.Prelude.{◌≡◌, ◌+◌, Bool, if◌then◌else◌, [], ◌∷◌, ◌++◌, vec_len, vec_capacity, ◌≢◌, ℕ, ◌≤◌, nat_lt, ◌||◌, ◌⊎◌, true, false, Option, Some, None, Result, Err, List, length}
+-- The ports of a service, what the calls on them do, and what becomes of the ports and the nodes of
+-- a dead node.
+use Rattle.std.specs.Prelude.{Bool, true, false, ◌≡◌, ℕ, List, map, ◌+◌, if◌then◌else◌, [], ◌∷◌, ◌++◌, vec_len, vec_capacity, ◌≢◌, ◌≤◌, nat_lt, ◌||◌, ◌⊎◌, Option, Some, None, Result, Err, length}
+use Rattle.iox2_container.specs.State.{container_as}
+use Rattle.iox2_dynamic.specs.Prelude.{UniquePortId, Default, LockIfLastIndex, ReleaseState, RecoversBy, ContainerState, details_where, is_of, PortCleanupAction, PortDetails, Adds, ContainerAddFailure, ContainerRemoveError, Handle, HasEntry, IsUnknownHandle, RegistryState, Removes, Role, TakesEntry, Visit, entries_of, fresh, listed}
+use Rattle.iox2_dynamic.specs.declared.dynamic_config.answers.PortCleanupAction.TheVariants.{RemovePort, SkipPort}
+use Rattle.iox2_dynamic.specs.Details.{node_of, port_of, role_of}
 use Rattle.std.specs.Global.{Vec}
 use Rattle.iox2_texts.specs.declared.bounded.CallbackProgression.{CallbackProgression}
-use Rattle.iox2_container.specs.declared.container.refusal.ContainerRemoveError.TheVariants.{ContainerHandleNotOwnedByContainer}
-use Rattle.iox2_container.specs.Callbacks.{CanVisit}
-use Rattle.iox2_container.specs.Mapped.{container_as}
-use Rattle.iox2_dynamic.specs.Recoveries.{RecoversPorts, ids_of_node}
-use Rattle.iox2_dynamic.specs.Details.{role_of, node_of}
-use Rattle.iox2_dynamic.specs.PortsState.{PortsState, Side, of_side, other_side}
+use Rattle.iox2_container.specs.declared.container.registry.ContainerRemoveError.TheVariants.{ContainerHandleNotOwnedByContainer}
+use Rattle.iox2_container.specs.Steps.{CanVisit}
+
+-- ports of two kinds. The first are recovered first
+pub record PortsState (A B : Type 0) : Type 0 where
+  pub first : ContainerState A
+  pub second : ContainerState B
+
+-- one of the two kinds
+pub data Side : Type 0 where
+  First : Side
+  Second : Side
+
+-- the first kind or the second
+abbrev pub side_of : Bool → Side
+side_of true = First
+side_of false = Second
+
+-- of what belongs to the two kinds, what belongs to this one
+abbrev pub of_side : {A : Type 0} → Side → A → A → A
+of_side First first second = first
+of_side Second first second = second
+
+-- the other kind
+abbrev pub other_side : Side → Side
+other_side First = Second
+other_side Second = First
+
+-- whether a port goes
+abbrev pub removes : PortCleanupAction → Bool
+removes RemovePort = true
+removes SkipPort = false
+
+-- a callback was called on a port, and its result says whether the port is removed
+abbrev pub CallsCleanup : {F : Type 0} → (F → UniquePortId → PortCleanupAction → F → Type 0) → F
+    → UniquePortId → Bool → F → Type 0
+CallsCleanup calls f port goes f' =
+    (action : PortCleanupAction) × calls f port action f' × (goes ≡ removes action)
+
+-- the ids of the ports of the dead node, by rising slot
+abbrev pub ids_of_node : ℕ → ContainerState PortDetails → List UniquePortId
+ids_of_node dead c = map port_of (details_where (is_of node_of dead) c.registry)
+
+-- a callback was called once on each port of the dead node, by rising slot, and exactly those are
+-- removed that it removes
+abbrev pub RecoversPorts : {F : Type 0} → (F → UniquePortId → PortCleanupAction → F → Type 0) → ℕ
+    → ContainerState PortDetails → F → ContainerState PortDetails → F → Type 0
+RecoversPorts calls dead old f new f' =
+    (state : ReleaseState)
+    × RecoversBy (λ g d goes h. CallsCleanup calls g (port_of d) goes h)
+    (is_of node_of dead) old f Default state new f'
+
+-- all entries of the dead node go
+abbrev pub RecoversNodes : ℕ → ContainerState ℕ → ReleaseState → ContainerState ℕ → Type 0
+RecoversNodes dead old state new =
+    RecoversBy {F = Unit {0}} (λ _ _ goes _. goes ≡ true)
+    (is_of (λ id. id) dead) old tt LockIfLastIndex state new tt
 
 -- the ports of a service, whatever their kinds
 abbrev pub Ports : Type 0

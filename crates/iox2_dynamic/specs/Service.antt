@@ -2,12 +2,11 @@
 use Rattle.std.specs.Prelude.{◌≡◌, ◌<◌, ℕ, false, List, [], All}
 use Rattle.iox2_dynamic.specs.Prelude.{PatternKind, Role, ContainerState, fresh, Entry, RegistryState, IsRegistry, entries_of, PortDetails}
 use Rattle.iox2_config.specs.declared.hash.input.PatternKind.TheVariants as kind
-use Rattle.iox2_container.specs.declared.container.role.Role.TheVariants as role
+use Rattle.iox2_container.specs.declared.container.handle.Role.TheVariants as role
 use Rattle.iox2_dynamic.specs.declared.dynamic_config.settings.MessagingPatternSettings.{MessagingPatternSettings}
 use Rattle.iox2_dynamic.specs.declared.dynamic_config.settings.MessagingPatternSettings.TheVariants as settings
 use Rattle.iox2_dynamic.specs.Details.{node_of}
-use Rattle.iox2_dynamic.specs.Ports.{Ports, IsEither, IsNeither, TakesIn, empty_ports}
-use Rattle.iox2_dynamic.specs.PortsState.{Side, of_side}
+use Rattle.iox2_dynamic.specs.Ports.{Ports, IsEither, IsNeither, TakesIn, empty_ports, Side, of_side}
 
 -- the nodes of a service and the ports of its pattern
 pub record Service : Type 0 where

@@ -1,16 +1,28 @@
--- What the calls on a service do.
-use Rattle.std.specs.Prelude.{◌≡◌, ◌<◌, ℕ, nat_eq, ◌&&◌, Bool, true, false, Result, Ok, Err}
-use Rattle.iox2_dynamic.specs.Prelude.{PatternKind, Role, UniquePortId, ContainerAddFailure, ContainerRemoveError, LockIfLastIndex, ReleaseState, Handle, ContainerState, IsUnknownHandle, HasEntry, release_state, DeregisterNodeState, RegisterNodeResult, PortCleanupAction, PortDetails, Adds, Removes}
-use Rattle.iox2_container.specs.declared.container.refusal.ContainerAddFailure.TheVariants as container
+-- What the calls on a service do, and how a service reports a registry's answers.
+use Rattle.std.specs.Prelude.{Result, Ok, Err, ◌≡◌, ◌<◌, ℕ, nat_eq, ◌&&◌, Bool, true, false}
+use Rattle.iox2_dynamic.specs.Prelude.{ContainerAddFailure, ReleaseState, Handle, DeregisterNodeState, RegisterNodeResult, PatternKind, Role, UniquePortId, ContainerRemoveError, LockIfLastIndex, ContainerState, IsUnknownHandle, HasEntry, release_state, PortCleanupAction, PortDetails, Adds, Removes}
+use Rattle.iox2_container.specs.declared.container.registry.ContainerAddFailure.TheVariants as container
+use Rattle.iox2_container.specs.declared.container.registry.ReleaseState.TheVariants.{Locked, Unlocked}
+use Rattle.iox2_dynamic.specs.declared.dynamic_config.answers.DeregisterNodeState.TheVariants.{HasOwners, NoMoreOwners}
+use Rattle.iox2_dynamic.specs.declared.dynamic_config.answers.RegisterNodeResult.TheVariants.{MarkedForDestruction, ExceedsMaxNumberOfNodes}
 use Rattle.iox2_dynamic.specs.declared.dynamic_config.answers.AttachError.{AttachError}
 use Rattle.iox2_dynamic.specs.declared.dynamic_config.answers.AttachError.TheVariants.{ServiceIsLocked, NodeNotRegistered, OutOfSpace}
 use Rattle.iox2_dynamic.specs.declared.dynamic_config.answers.DeregisterError.{DeregisterError}
 use Rattle.iox2_dynamic.specs.declared.dynamic_config.answers.DeregisterError.TheVariants.{ContainerHandleNotOwnedByContainer, PortsStillAttached}
-use Rattle.iox2_dynamic.specs.Answers.{answer_of, state_of}
-use Rattle.iox2_dynamic.specs.Recoveries.{RecoversNodes}
+use Rattle.iox2_dynamic.specs.Ports.{RecoversNodes, Ports, AddsTo, RemovesFrom, RecoversBoth, has_ports_of}
 use Rattle.iox2_dynamic.specs.Details.{node_of}
-use Rattle.iox2_dynamic.specs.Ports.{Ports, AddsTo, RemovesFrom, RecoversBoth, has_ports_of}
 use Rattle.iox2_dynamic.specs.Service.{Service, IsService, entries_of_node, first_role, second_role}
+
+-- the lock that a state reports
+abbrev pub state_of : DeregisterNodeState → ReleaseState
+state_of NoMoreOwners = Locked
+state_of HasOwners = Unlocked
+
+-- the registry's answer to an add, for a service's answer to a registration
+abbrev pub answer_of : Result Handle RegisterNodeResult → Result Handle ContainerAddFailure
+answer_of (Ok handle) = Ok handle
+answer_of (Err MarkedForDestruction) = Err container.IsLocked
+answer_of (Err ExceedsMaxNumberOfNodes) = Err container.OutOfSpace
 
 -- what registering a node does
 abbrev pub RegisterStep : Service → ℕ → Result Handle RegisterNodeResult → Service → Type 0

@@ -3,14 +3,12 @@
 
 mod answers;
 pub mod blackboard;
-mod details;
 pub mod event;
-mod listing;
 mod pattern;
 mod port_details;
+mod port_registry;
 pub mod publish_subscribe;
 mod questions;
-mod recovery;
 pub mod request_response;
 mod service;
 mod settings;
@@ -18,11 +16,10 @@ mod settings;
 pub use answers::{
     AttachError, DeregisterError, DeregisterNodeState, PortCleanupAction, RegisterNodeResult,
 };
-pub use details::{
-    ClientDetails, ListenerDetails, NotifierDetails, PortKind, PublisherDetails, ReaderDetails,
-    ServerDetails, SubscriberDetails, WriterDetails,
-};
 pub use pattern::{MessagingPattern, PortRegistries};
-pub use port_details::PortDetails;
+pub use port_details::{
+    ClientDetails, ListenerDetails, NotifierDetails, PortDetails, PortKind, PublisherDetails,
+    ReaderDetails, ServerDetails, SubscriberDetails, WriterDetails,
+};
 pub use service::DynamicConfig;
 pub use settings::{MessagingPatternSettings, PortRoles};

@@ -1,10 +1,9 @@
 //! What holds of every service, and how details, settings and results are compared and copied.
 ghost use Rattle.std.specs.Prelude.{◌≡◌, ◌↔◌, ◌<◌, ℕ, Bool, IsTrue, IsOk, IsOkAnd, Result, not};
 ghost use Rattle.std.specs.Prelude.{count_by};
-ghost use Rattle.iox2_container.specs.declared.container.release.ReleaseMode.{ReleaseMode};
-ghost use Rattle.iox2_container.specs.declared.container.release.ReleaseState.{ReleaseState};
-ghost use Rattle.iox2_container.specs.Handle.{Handle};
-ghost use Rattle.iox2_container.specs.State.{RegistryState};
+ghost use Rattle.iox2_container.specs.declared.container.registry.ReleaseMode.{ReleaseMode};
+ghost use Rattle.iox2_container.specs.declared.container.registry.ReleaseState.{ReleaseState};
+ghost use Rattle.iox2_container.specs.State.{Handle, RegistryState};
 ghost use Rattle.iox2_container.specs.Steps.{Recovers, TakesEntry, entries_of, is_of, marks_of};
 ghost use Rattle.iox2_dynamic.specs.declared.dynamic_config.answers.AttachError.{AttachError};
 ghost use Rattle.iox2_dynamic.specs.declared.dynamic_config.answers.RegisterNodeResult.{RegisterNodeResult};

@@ -4,7 +4,7 @@ use Rattle.iox2sd.proofs.Names.{Bool, ContainerState, CountsIn, Entry, Keeps, Li
 use Rattle.iox2_ids.specs.declared.identifiers.port_id.UniquePortId.{UniquePortId}
 use Rattle.iox2_dynamic.specs.declared.dynamic_config.answers.DeregisterNodeState.{DeregisterNodeState}
 use Rattle.iox2_dynamic.specs.declared.dynamic_config.answers.PortCleanupAction.{PortCleanupAction}
-use Rattle.iox2_dynamic.specs.Recoveries.{RecoversPorts}
+use Rattle.iox2_dynamic.specs.Ports.{RecoversPorts}
 use Rattle.iox2_dynamic.specs.Steps.{DeadStep}
 use Rattle.iox2sd.specs.declared.service.roles.Counts.{Counts}
 

@@ -7,10 +7,10 @@ use Rattle.iox2_texts.specs.declared.bounded.CallbackProgression.{CallbackProgre
 use Rattle.iox2_texts.specs.Attribute.{Visits}
 use Rattle.std.specs.Bool.{beq}
 use Rattle.std.specs.Option.{option_eq}
-use Rattle.iox2_dynamic.specs.PortsState.{side_of}
+use Rattle.iox2_dynamic.specs.Ports.{side_of}
 use Rattle.std.proofs.lemmas.List.{append-nil, append_assoc, length-append, length-map, length-set, map-append}
 use Rattle.std.proofs.Math.Seq.{set-append_seam, drop-cons}
-use Rattle.iox2_container.specs.Mapped.{entry_as, container_as}
+use Rattle.iox2_container.specs.State.{entry_as, container_as}
 use Rattle.iox2_container.proofs.Lists.{filter-map}
 
 puts_all : {A : Type 0} (before : List A × ℕ) (items : List A) (after : List A × ℕ)

@@ -1,8 +1,8 @@
 -- Calls that change a service, and what they answer.
 use Rattle.std.specs.Prelude.{◌≡◌, ℕ, Some, None, Result, Ok, Err, List, [], ◌∷◌}
 use Rattle.iox2sd.specs.Prelude.{HasOwners, NoMoreOwners, RegisterStep, DeregisterStep, ReleaseStep, ReadsNode, Handle, Id, Port, HandleAnswer, Status}
-use Rattle.iox2_container.specs.Handle.{Handle as Named}
-use Rattle.iox2_container.specs.declared.container.refusal.ContainerRemoveError.TheVariants as remove
+use Rattle.iox2_container.specs.State.{Handle as Named}
+use Rattle.iox2_container.specs.declared.container.registry.ContainerRemoveError.TheVariants as remove
 use Rattle.iox2_dynamic.specs.declared.dynamic_config.answers.DeregisterError.TheVariants as leave
 use Rattle.iox2_dynamic.specs.declared.dynamic_config.answers.RegisterNodeResult.TheVariants as enter
 use Rattle.iox2_dynamic.specs.Service.{Service as Held}

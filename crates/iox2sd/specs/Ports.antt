@@ -1,8 +1,8 @@
 -- Handles and ports as C sees them.
 use Rattle.std.specs.Prelude.{◌≡◌, ℕ, Option, Some, None, Bool, true, false, Result, Ok, Err, ◌⊎◌}
 use Rattle.iox2sd.specs.Prelude.{Role, Handle, port_value, PortDetails, role_of, node_of, port_of, HasRole, AttachStep, number_of, id_of, ReadsNode, Port, Status}
-use Rattle.iox2_container.specs.Handle.{Handle as Named}
-use Rattle.iox2_container.specs.declared.container.role.Role.TheVariants as role
+use Rattle.iox2_container.specs.State.{Handle as Named}
+use Rattle.iox2_container.specs.declared.container.handle.Role.TheVariants as role
 use Rattle.iox2_config.specs.declared.config.choices.DataSegmentType.{DataSegmentType}
 use Rattle.iox2_config.specs.declared.config.choices.DataSegmentType.TheVariants.{Dynamic, Static}
 use Rattle.iox2_dynamic.specs.declared.dynamic_config.answers.AttachError.TheVariants as attach

@@ -1,7 +1,7 @@
 -- The names of the crates below, and of the declared types, that the definitions cite.
-pub use Rattle.iox2_container.specs.ContainerState.{ContainerState}
+pub use Rattle.iox2_container.specs.State.{ContainerState}
 pub use Rattle.iox2_container.specs.Steps.{HasEntry, IsUnknownHandle, TakesEntry, details_where, is_of, listed}
-pub use Rattle.iox2_container.specs.declared.container.role.Role.{Role}
+pub use Rattle.iox2_container.specs.declared.container.handle.Role.{Role}
 pub use Rattle.iox2_dynamic.specs.Details.{node_of, port_of, role_of}
 pub use Rattle.iox2_dynamic.specs.Ports.{IsNeither, IsNoPort, OfRole, Ports, StandsAmong, ports_of_node}
 pub use Rattle.iox2_dynamic.specs.Service.{HasRole, PatternCapacities, TakesPort, first_role, fresh_service, second_role}

@@ -1,11 +1,10 @@
 -- Questions to a service, about ids and about what a handle stands for, and what they answer.
 use Rattle.std.specs.Prelude.{◌≡◌, ◌↔◌, ℕ, Bool, IsTrue, Some, None, Result, Ok, Err, ◌+◌, nat_lt, List}
-use Rattle.iox2_container.specs.State.{RegistryState}
+use Rattle.iox2_container.specs.State.{RegistryState, Handle as Named}
 use Rattle.iox2sd.specs.Prelude.{TakesEntry, Role, PortDetails, OfRole, HasRole, TakesPort, first_role, second_role, Roles, Status, IsUnknownHandle, HasEntry, IsNoPort, StandsAmong, id_of, number_of, ReadsText, Handle, Id, Port, IdAnswer}
 use Rattle.iox2_dynamic.specs.Service.{Service as Held}
 use Rattle.iox2sd.specs.Ports.{role_number, ReadsRole, ReadsHandle, c_port}
 use Rattle.iox2sd_common.specs.declared.status.Status.TheVariants as status
-use Rattle.iox2_container.specs.Handle.{Handle as Named}
 use Rattle.iox2sd.specs.Answers.{id_answer}
 use Rattle.iox2sd_common.specs.Answers.{Returns}
 

@@ -1,7 +1,7 @@
 -- Each line begins with the word of a form.
 use Rattle.std.proofs.Common.{refl}
-use Rattle.iox2_container.specs.declared.container.role.Role.{Role}
-use Rattle.iox2_container.specs.declared.container.role.Role.TheVariants as role
+use Rattle.iox2_container.specs.declared.container.handle.Role.{Role}
+use Rattle.iox2_container.specs.declared.container.handle.Role.TheVariants as role
 use Rattle.service_descriptions.specs.declared.replay.machine.command.Cleanup.TheVariants.{ByPort}
 use Rattle.service_descriptions.specs.declared.replay.machine.command.Command.{Command}
 use Rattle.service_descriptions.specs.declared.replay.machine.command.Command.TheVariants as command

@@ -1,8 +1,8 @@
 -- What the parts of a line leave out.
 use Rattle.std.proofs.Common.{◌≡◌, ◌≢◌, ◌⊎◌, ℕ, ◌≤◌, ◌<◌, ◌^◌, List, [], ◌++◌, Some, None, codes, get_or, refl, sym, ◌∙◌, subst, arith}
 use Rattle.std.proofs.lemmas.List.{append-nil, append_cancel_left}
-use Rattle.iox2_container.specs.declared.container.role.Role.{Role}
-use Rattle.iox2_container.specs.declared.container.role.Role.TheVariants as role
+use Rattle.iox2_container.specs.declared.container.handle.Role.{Role}
+use Rattle.iox2_container.specs.declared.container.handle.Role.TheVariants as role
 use Rattle.line_streams.specs.declared.phrase.LineEnd.TheVariants.{Bytes}
 use Rattle.line_streams.specs.Numerals.{cons_same}
 use Rattle.service_descriptions.specs.declared.replay.lines.line.ServiceLine.{ServiceLine}

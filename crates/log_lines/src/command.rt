@@ -2,7 +2,7 @@
 ghost use Rattle.std.specs.Prelude.{◌≡◌, ◌≢◌, IfNone, IfOk, IfSome};
 ghost use Rattle.std.specs.Option.{option_map};
 ghost use Rattle.line_streams.specs.Spelling.{Reads};
-ghost use Rattle.iox2_container.specs.declared.container.role.Role.{Role as OneRole};
+ghost use Rattle.iox2_container.specs.declared.container.handle.Role.{Role as OneRole};
 ghost use Rattle.log_lines.specs.Commands.{HasBegun, HasText, IsHandle, IsRemoval, begun_in};
 ghost use Rattle.log_lines.specs.Commands.{begun_text, command_text, handle_text, named, weak_text};
 

@@ -30,28 +30,22 @@ pub use Rattle.histories.specs.Histories.{AreAll, AreEnough, IsExplained, Leads}
 pub use Rattle.histories.specs.Laws.{calls_alone}
 pub use Rattle.histories.specs.declared.left.Left.{Left}
 pub use Rattle.iox2_config.specs.declared.hash.input.PatternKind.{PatternKind}
-pub use Rattle.iox2_container.specs.Changes.{Adds, Changes, Removes}
-pub use Rattle.iox2_container.specs.ContainerState.{ContainerState, container}
-pub use Rattle.iox2_container.specs.Handle.{Handle}
-pub use Rattle.iox2_container.specs.State.{Entry, IsRegistry, RegistryState, handle_of}
-pub use Rattle.iox2_container.specs.Steps.{AddStep, CalledInTurn, HasEntry, HasRoom, InsertsOne, IsFull, IsUnknownHandle, RecoverStep, RemoveStep, TakesEntry, details_where, candidates, is_of, lock_after, marks_of, release_state, staying}
-pub use Rattle.iox2_container.specs.declared.container.refusal.ContainerAddFailure.{ContainerAddFailure}
-pub use Rattle.iox2_container.specs.declared.container.refusal.ContainerAddFailure.TheVariants.{IsLocked, OutOfSpace}
-pub use Rattle.iox2_container.specs.declared.container.refusal.ContainerRemoveError.{ContainerRemoveError}
-pub use Rattle.iox2_container.specs.declared.container.refusal.ContainerRemoveError.TheVariants.{ContainerHandleNotOwnedByContainer}
-pub use Rattle.iox2_container.specs.declared.container.release.ReleaseMode.{ReleaseMode}
-pub use Rattle.iox2_container.specs.declared.container.release.ReleaseMode.TheVariants.{Default, LockIfLastIndex}
-pub use Rattle.iox2_container.specs.declared.container.release.ReleaseState.{ReleaseState}
-pub use Rattle.iox2_container.specs.declared.container.release.ReleaseState.TheVariants.{Unlocked}
-pub use Rattle.iox2_container.specs.declared.container.role.Role.{Role}
-pub use Rattle.iox2_dynamic.specs.Answers.{state_of}
+pub use Rattle.iox2_container.specs.Steps.{Adds, Changes, Removes, AddStep, CalledInTurn, HasEntry, HasRoom, InsertsOne, IsFull, IsUnknownHandle, RecoverStep, RemoveStep, TakesEntry, details_where, candidates, is_of, lock_after, marks_of, release_state, staying}
+pub use Rattle.iox2_container.specs.State.{ContainerState, container, Handle, Entry, IsRegistry, RegistryState, handle_of}
+pub use Rattle.iox2_container.specs.declared.container.registry.ContainerAddFailure.{ContainerAddFailure}
+pub use Rattle.iox2_container.specs.declared.container.registry.ContainerAddFailure.TheVariants.{IsLocked, OutOfSpace}
+pub use Rattle.iox2_container.specs.declared.container.registry.ContainerRemoveError.{ContainerRemoveError}
+pub use Rattle.iox2_container.specs.declared.container.registry.ContainerRemoveError.TheVariants.{ContainerHandleNotOwnedByContainer}
+pub use Rattle.iox2_container.specs.declared.container.registry.ReleaseMode.{ReleaseMode}
+pub use Rattle.iox2_container.specs.declared.container.registry.ReleaseMode.TheVariants.{Default, LockIfLastIndex}
+pub use Rattle.iox2_container.specs.declared.container.registry.ReleaseState.{ReleaseState}
+pub use Rattle.iox2_container.specs.declared.container.registry.ReleaseState.TheVariants.{Unlocked}
+pub use Rattle.iox2_container.specs.declared.container.handle.Role.{Role}
+pub use Rattle.iox2_dynamic.specs.Steps.{state_of, AddsPort, DeadStep, IsOpenFor, NodesAfter, RemovesPort, is_last_of_ports}
 pub use Rattle.iox2_dynamic.specs.Details.{node_of, port_of, role_of}
-pub use Rattle.iox2_dynamic.specs.Ports.{IsEither, IsNeither, OnSide, Ports, RecoversBoth, RemovesFrom, has_ports_of}
-pub use Rattle.iox2_dynamic.specs.PortsState.{Side, of_side, other_side, side_of}
-pub use Rattle.iox2_dynamic.specs.PortsState.Side.{First, Second}
-pub use Rattle.iox2_dynamic.specs.Recoveries.{CallsCleanup, RecoversNodes, RecoversPorts, removes}
+pub use Rattle.iox2_dynamic.specs.Ports.{IsEither, IsNeither, OnSide, Ports, RecoversBoth, RemovesFrom, has_ports_of, Side, of_side, other_side, side_of, CallsCleanup, RecoversNodes, RecoversPorts, removes}
+pub use Rattle.iox2_dynamic.specs.Ports.Side.{First, Second}
 pub use Rattle.iox2_dynamic.specs.Service.{HasRole, IsPortRegistry, IsService, Registered, Service, entries_of_node, first_role, role_at, second_role}
-pub use Rattle.iox2_dynamic.specs.Steps.{AddsPort, DeadStep, IsOpenFor, NodesAfter, RemovesPort, is_last_of_ports}
 pub use Rattle.iox2_dynamic.specs.declared.dynamic_config.answers.DeregisterNodeState.{DeregisterNodeState}
 pub use Rattle.iox2_dynamic.specs.declared.dynamic_config.answers.PortCleanupAction.{PortCleanupAction}
 pub use Rattle.iox2_dynamic.specs.declared.dynamic_config.answers.PortCleanupAction.TheVariants.{RemovePort, SkipPort}
@@ -91,11 +85,10 @@ pub use Rattle.service_conformance.specs.declared.conformance.possible.PossibleR
 pub use Rattle.service_conformance.specs.declared.conformance.request.Request.{Request}
 pub use Rattle.service_conformance.specs.declared.conformance.seen_reply.ReplyWord.{ReplyWord}
 pub use Rattle.service_conformance.specs.declared.conformance.seen_reply.SeenReply.{SeenReply}
-pub use Rattle.service_descriptions.specs.Cleanups.{CleanedUp, Cleans, ServesDead, action_for, reply_of_owners as reply_of_state}
-pub use Rattle.service_descriptions.specs.Handles.{KeepsHandles, named}
+pub use Rattle.service_descriptions.specs.Steps.{CleanedUp, Cleans, ServesDead, action_for, reply_of_owners as reply_of_state, Run, Serves, ServesAdd, ServesDeregister, ServesRegister, ServesRelease, ServiceStep, State, handle_in, named}
+pub use Rattle.service_descriptions.specs.Fields.{KeepsHandles}
 pub use Rattle.service_descriptions.specs.Lines.{IsId}
 pub use Rattle.service_descriptions.specs.Replies.{IsSameReply, id_word, port_word, text_of}
-pub use Rattle.service_descriptions.specs.Steps.{Run, Serves, ServesAdd, ServesDeregister, ServesRegister, ServesRelease, ServiceStep, State, handle_in}
 pub use Rattle.service_descriptions.specs.declared.replay.machine.command.Cleanup.{Cleanup}
 pub use Rattle.service_descriptions.specs.declared.replay.machine.command.Cleanup.TheVariants.{ByPort}
 pub use Rattle.service_descriptions.specs.declared.replay.machine.command.Command.{Command}

@@ -10,7 +10,7 @@ use Rattle.service_conformance.proofs.Registries.{can_give, no_room, was_given, 
 use Rattle.service_conformance.proofs.Quiet.{untouching}
 use Rattle.iox2_dynamic.specs.declared.dynamic_config.answers.AttachError.TheVariants as refusal
 use Rattle.service_conformance.proofs.Taking.{given_at, has_role, lacks, may_give_at, ports_are, steps_at, Takes, of_ports, taken_at}
-use Rattle.iox2_container.specs.declared.container.release.ReleaseState.TheVariants as state
+use Rattle.iox2_container.specs.declared.container.registry.ReleaseState.TheVariants as state
 use Rattle.iox2_container.proofs.Lists.{length-InsertsOne, one_by_ticket}
 use Rattle.iox2_container.proofs.Keeping.{not_foreign}
 use Rattle.iox2_dynamic.specs.declared.dynamic_config.answers.DeregisterNodeState.TheVariants as nodes

@@ -1,7 +1,7 @@
 -- Calls that overlap nothing, and runs.
 use Rattle.std.specs.Prelude.{◌++◌, ◌<◌, ◌^◌, ◌↔◌, ◌∷◌, ◌≡◌, ◌≢◌, List, None, Option, Some, [], length, map, ℕ}
 use Rattle.service_conformance.specs.Prelude.{AllByRecursion, Command, Handle, IsExplained, IsService, KeepsHandles, RegistryState, Reply, Role, Run, Service, State, calls_alone, named, role_of, text_of}
-use Rattle.iox2_container.specs.declared.container.role.Role.TheVariants as role
+use Rattle.iox2_container.specs.declared.container.handle.Role.TheVariants as role
 use Rattle.service_descriptions.specs.declared.replay.machine.command.Command.TheVariants as command
 use Rattle.service_conformance.specs.Calls.{Call, answered, call_of}
 use Rattle.service_conformance.specs.Judged.{Judged, WindowStep}

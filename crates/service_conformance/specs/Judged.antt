@@ -1,7 +1,7 @@
 -- What is judged of a service: calls, and weak listings that start and stop.
 use Rattle.std.specs.Prelude.{if◌then◌else◌, ◌++◌, ◌+◌, ◌<◌, ◌==◌, ◌↔◌, ◌∷◌, ◌≡◌, List, None, Option, Some, [], length, slice_get, ℕ}
 use Rattle.service_conformance.specs.Prelude.{option_map}
-use Rattle.iox2_container.specs.declared.container.role.Role.{Role}
+use Rattle.iox2_container.specs.declared.container.handle.Role.{Role}
 use Rattle.service_conformance.specs.declared.conformance.possible.Part.{Part}
 use Rattle.service_conformance.specs.declared.conformance.possible.PossibleReplies.{PossibleReplies}
 use Rattle.service_conformance.specs.declared.conformance.possible.PossibleReplies.TheVariants as replies

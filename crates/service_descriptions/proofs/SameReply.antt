@@ -11,7 +11,7 @@ use Rattle.iox2_config.proofs.Equality.{EqualityTest, decided, numbers, pairs, s
 use Rattle.iox2_config.specs.SampleLayoutParts.{SampleLayoutParts}
 use Rattle.iox2_config.specs.contracts.types.layout.SampleLayoutPartialEq.TheImpl as room
 use Rattle.iox2_container.specs.contracts.container.handle.ContainerHandlePartialEq.TheImpl as handle
-use Rattle.iox2_container.specs.contracts.container.role.RolePartialEq.TheImpl as role
+use Rattle.iox2_container.specs.contracts.container.handle.RolePartialEq.TheImpl as role
 use Rattle.iox2_dynamic.specs.contracts.dynamic_config.port_details.PortDetailsPartialEq.TheImpl as port
 use Rattle.service_descriptions.specs.contracts.replay.machine.reply.ReplyPartialEq.TheImpl as same
 use Rattle.service_descriptions.specs.declared.replay.machine.reply.Reply.TheVariants as reply

@@ -7,13 +7,13 @@ use Rattle.service_descriptions.specs.Descriptions.{details_in}
 use Rattle.service_descriptions.proofs.Names.{PatternKind, ContainerAddFailure, Default, LockIfLastIndex, ReleaseState, Role, Handle, ContainerState, RegistryState, AddStep, is_of, DeregisterNodeState, PortDetails, node_of, has_ports_of, Side, of_side, other_side, First, Second, Service, IsService, AddsPort, RemovesPort, NodesAfter, Description, Cleanup, Command, Reply, CleanedUp, ServesDead, ServesVerify, ServesMessages, ServesLayout, ServesPlaces, ServesCompatible, named, tickets_of, ServesNodes, ServesList, ServesCount, ServesRegister, ServesDeregister, ServesAdd, ServesRelease, Serves, handle_in, map-append, All-push, All-weaker, Vec, DeregisterStep, reply_of_owners, Differ, IsGiven, KeepsHandles, handle_at, handles_in, IsSound, described, session_of, LineStep, ServesLine, StandsFor, handle_given, reply_of, IsState, ServiceStep, State}
 use Rattle.iox2_config.specs.declared.hash.input.PatternKind.TheVariants as kind
 use Rattle.iox2_config.specs.declared.types.message_details.MessageTypeDetails.{MessageTypeDetails}
-use Rattle.iox2_container.specs.declared.container.refusal.ContainerAddFailure.TheVariants as container
-use Rattle.iox2_container.specs.declared.container.refusal.ContainerRemoveError.{ContainerRemoveError}
-use Rattle.iox2_container.specs.declared.container.refusal.ContainerRemoveError.TheVariants as remove
-use Rattle.iox2_container.specs.declared.container.release.ReleaseState.TheVariants.{Locked, Unlocked}
-use Rattle.iox2_container.specs.declared.container.role.Role.TheVariants as role
+use Rattle.iox2_container.specs.declared.container.registry.ContainerAddFailure.TheVariants as container
+use Rattle.iox2_container.specs.declared.container.registry.ContainerRemoveError.{ContainerRemoveError}
+use Rattle.iox2_container.specs.declared.container.registry.ContainerRemoveError.TheVariants as remove
+use Rattle.iox2_container.specs.declared.container.registry.ReleaseState.TheVariants.{Locked, Unlocked}
+use Rattle.iox2_container.specs.declared.container.handle.Role.TheVariants as role
 use Rattle.iox2_dynamic.specs.declared.dynamic_config.answers.DeregisterNodeState.TheVariants as nodes
-use Rattle.iox2_dynamic.specs.Answers.{state_of}
+use Rattle.iox2_dynamic.specs.Steps.{state_of}
 use Rattle.iox2_dynamic.specs.Service.{IsPortRegistry, role_at}
 use Rattle.service_descriptions.specs.declared.replay.machine.command.Command.TheVariants as command
 use Rattle.service_descriptions.specs.declared.replay.machine.command.MessagePart.{MessagePart}

@@ -1,10 +1,7 @@
 -- Promises: the step of a service under a command and its parts, the texts of ids, commands,
 -- services and replies, what a script is and gives, and what the streams of the program get.
 pub mod Steps
-pub mod Cleanups
 pub mod Descriptions
-pub mod Handles
-pub mod Listings
 pub mod Lines
 pub mod Replies
 pub mod Script

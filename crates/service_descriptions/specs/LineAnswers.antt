@@ -7,9 +7,8 @@ use Rattle.iox2_texts.specs.declared.bounded.CallbackProgression.TheVariants.{Co
 use Rattle.service_descriptions.specs.declared.replay.machine.command.Command.TheVariants as command
 use Rattle.service_descriptions.specs.declared.replay.machine.reply.LineAnswer.{LineAnswer}
 use Rattle.service_descriptions.specs.declared.replay.machine.reply.LineAnswer.TheVariants as answer
-use Rattle.service_descriptions.specs.Listings.{ServesNodes, ServesList}
+use Rattle.service_descriptions.specs.Steps.{ServesNodes, ServesList, Serves, ServiceStep, State, handle_in}
 use Rattle.service_descriptions.specs.Replies.{port_word, reply_line, reply_of}
-use Rattle.service_descriptions.specs.Steps.{Serves, ServiceStep, State, handle_in}
 
 -- the replies that an answer stands for: what is listed is read off the service
 abbrev pub StandsFor : Service → LineAnswer → Reply → Type 0

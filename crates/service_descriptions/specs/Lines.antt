@@ -2,7 +2,7 @@
 use Rattle.std.specs.Prelude.{◌≡◌, ◌≢◌, ℕ, ◌<◌, ◌^◌, List, [], ◌∷◌, ◌++◌, codes, map}
 use Rattle.service_descriptions.specs.Prelude.{decimal, AllByRecursion, join_with_byte, packed, process_of, seconds_of, nanoseconds_of, counter_of, owner_of, port_value, Role, PortDetails, role_of, node_of, port_of, ByPort, Command, line_end}
 use Rattle.iox2_config.specs.declared.config.choices.DataSegmentType.TheVariants.{Static}
-use Rattle.iox2_container.specs.declared.container.role.Role.TheVariants as role
+use Rattle.iox2_container.specs.declared.container.handle.Role.TheVariants as role
 use Rattle.iox2_dynamic.specs.declared.dynamic_config.port_details.PortDetails.TheVariants as of
 use Rattle.service_descriptions.specs.declared.replay.machine.command.Command.TheVariants as command
 use Rattle.service_descriptions.specs.declared.replay.machine.command.Parts.{Parts}

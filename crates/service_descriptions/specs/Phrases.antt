@@ -1,7 +1,7 @@
 -- The texts of the words of lines, each with what follows it, and that no two values have one word.
 use Rattle.std.specs.Prelude.{◌≢◌, ℕ, List, ◌∷◌, ◌++◌, codes, ◌==◌, if◌then◌else◌, Some}
 use Rattle.service_descriptions.specs.Prelude.{PatternKind, pattern_word, Role, PortDetails, role_of, node_of, port_of, port_value, Spelling, EndsNumber, number, sequence, after, packed, process_of, seconds_of, nanoseconds_of, counter_of, OneWay, Reads}
-use Rattle.iox2_container.specs.declared.container.role.Role.TheVariants as role
+use Rattle.iox2_container.specs.declared.container.handle.Role.TheVariants as role
 use Rattle.line_streams.specs.Spelling.{listed}
 use Rattle.service_descriptions.specs.Lines.{id_text, IsId, IsNodeId, role_word, IsPlain, plain}
 use Rattle.std.proofs.Common.{◌≡◌, get_or, arith, refl, sym, ◌∙◌, ap, subst, append_assoc}

@@ -1,18 +1,92 @@
--- The step of a service under one command, and runs of many.
-use Rattle.std.specs.Prelude.{◌≡◌, ℕ, ◌-◌, ◌^◌, List, [], ◌∷◌, ◌++◌, Option, Some, None, Result, Ok, Err, AllPairs, take, length}
-use Rattle.iox2_container.specs.declared.container.refusal.ContainerRemoveError.TheVariants as container
-use Rattle.service_descriptions.specs.Prelude.{Handle, PortDetails, role_of, Service, IsService, HasRole, LacksRole, PatternCapacities, fresh_service, RegisterStep, DeregisterStep, AttachStep, ReleaseStep, Description, Command, Reply}
+-- The step of a service under one command, its parts, and runs of many.
+use Rattle.std.specs.Prelude.{◌≡◌, Some, ℕ, ◌==◌, if◌then◌else◌, List, [], ◌∷◌, ◌-◌, ◌^◌, ◌++◌, Option, None, Result, Ok, Err, AllPairs, take, length, ◌≢◌, slice_get, unwrap_or}
+use Rattle.service_descriptions.specs.Prelude.{Role, listed, CountsIn, OfRole, LacksRole, Service, first_role, second_role, Reply, list_any, UniquePortId, port_value, DeregisterNodeState, PortCleanupAction, DeadStep, ByOrder, ByPort, Handle, PortDetails, role_of, IsService, HasRole, PatternCapacities, fresh_service, RegisterStep, DeregisterStep, AttachStep, ReleaseStep, Description, Command}
+use Rattle.service_descriptions.specs.declared.replay.machine.reply.Reply.TheVariants as reply
+use Rattle.iox2_dynamic.specs.declared.dynamic_config.answers.DeregisterNodeState.TheVariants as nodes
+use Rattle.iox2_dynamic.specs.declared.dynamic_config.answers.PortCleanupAction.TheVariants.{RemovePort, SkipPort}
+use Rattle.service_descriptions.specs.declared.replay.machine.command.Cleanup.{Cleanup}
+use Rattle.iox2_container.specs.declared.container.registry.ContainerRemoveError.TheVariants as container
 use Rattle.iox2_dynamic.specs.declared.dynamic_config.answers.AttachError.{AttachError}
 use Rattle.iox2_dynamic.specs.declared.dynamic_config.answers.AttachError.TheVariants.{ServiceIsLocked, NodeNotRegistered, OutOfSpace}
 use Rattle.iox2_dynamic.specs.declared.dynamic_config.answers.DeregisterError.TheVariants.{ContainerHandleNotOwnedByContainer, PortsStillAttached}
-use Rattle.iox2_dynamic.specs.declared.dynamic_config.answers.DeregisterNodeState.TheVariants as nodes
 use Rattle.iox2_dynamic.specs.declared.dynamic_config.answers.RegisterNodeResult.TheVariants.{MarkedForDestruction, ExceedsMaxNumberOfNodes}
 use Rattle.service_descriptions.specs.declared.replay.machine.command.Command.TheVariants as command
-use Rattle.service_descriptions.specs.declared.replay.machine.reply.Reply.TheVariants as reply
-use Rattle.service_descriptions.specs.Cleanups.{ServesDead}
 use Rattle.service_descriptions.specs.Descriptions.{ServesVerify, ServesMessages, ServesLayout, ServesPlaces, ServesCompatible}
-use Rattle.service_descriptions.specs.Handles.{Differ, named}
-use Rattle.service_descriptions.specs.Listings.{ServesNodes, ServesList, ServesCount}
+
+-- the handle that the earlier command k was answered with; none where
+-- there is no such command, or it was answered with no handle
+abbrev pub named : List (Option Handle) → ℕ → Option Handle
+named handles k = unwrap_or (slice_get handles k) None
+
+-- not the same handle twice
+abbrev pub Differ : Option Handle → Option Handle → Type 0
+Differ (Some a) (Some b) = a ≢ b
+Differ _ _ = Unit {0}
+
+-- how listing the nodes is answered
+abbrev pub ServesNodes : Service → Reply → Type 0
+ServesNodes s (reply.Nodes ids) = ids.items ≡ listed s.nodes.registry
+ServesNodes s _ = ⊥
+
+-- how listing the ports of a role is answered
+abbrev pub ServesList : Service → Role → Reply → Type 0
+ServesList s role (reply.Ports ports) =
+    OfRole (λ r items. items ≡ listed r) (first_role s.pattern) (second_role s.pattern) s.ports role
+    (Some ports.items)
+ServesList s role reply.WrongPattern = LacksRole s.pattern role
+ServesList s role _ = ⊥
+
+-- how counting the ports of a role is answered
+abbrev pub ServesCount : Service → Role → Reply → Type 0
+ServesCount s role (reply.Count n) =
+    CountsIn (first_role s.pattern) (second_role s.pattern) s.ports role (Some n)
+ServesCount s role reply.WrongPattern = LacksRole s.pattern role
+ServesCount s role _ = ⊥
+
+-- the next answer of a list; after its end every port goes
+abbrev pub first_action : List PortCleanupAction → PortCleanupAction
+first_action [] = RemovePort
+first_action (action ∷ actions) = action
+
+-- the answers after it
+abbrev pub other_actions : List PortCleanupAction → List PortCleanupAction
+other_actions [] = []
+other_actions (action ∷ actions) = actions
+
+-- the answer on the port of this value, where ports of these values stay
+abbrev pub action_for : List ℕ → ℕ → PortCleanupAction
+action_for kept value = if list_any (λ k. k == value) kept then SkipPort else RemovePort
+
+-- the answers that a cleanup has in order
+abbrev pub actions_in : Cleanup → List PortCleanupAction
+actions_in (ByOrder actions) = actions.items
+actions_in (ByPort kept) = []
+
+-- what a cleanup answers on a port, where these answers were left before and after
+abbrev pub Cleans : Cleanup → List PortCleanupAction → UniquePortId → PortCleanupAction
+    → List PortCleanupAction → Type 0
+Cleans (ByOrder actions) left port action left' = (action ≡ first_action left)
+    × (left' ≡ other_actions left)
+Cleans (ByPort kept) left port action left' = (action ≡ action_for kept.items (port_value port))
+    × (left' ≡ left)
+
+-- a dead node was removed with this cleanup
+abbrev pub CleanedUp : Service → ℕ → Cleanup → DeregisterNodeState → Service → Type 0
+CleanedUp old dead cleanup answer new =
+    (left : List PortCleanupAction)
+    × DeadStep (Cleans cleanup) old (actions_in cleanup) dead answer new left
+
+-- what is replied where entries of a node were removed
+abbrev pub reply_of_owners : DeregisterNodeState → Reply
+reply_of_owners nodes.HasOwners = reply.HasOwners
+reply_of_owners nodes.NoMoreOwners = reply.NoMoreOwners
+
+-- how removing a dead node with this cleanup is answered
+abbrev pub ServesDead : Service → ℕ → Cleanup → Reply → Service → Type 0
+ServesDead old dead cleanup reply.HasOwners new = CleanedUp old dead cleanup nodes.HasOwners new
+ServesDead old dead cleanup reply.NoMoreOwners new =
+    CleanedUp old dead cleanup nodes.NoMoreOwners new
+ServesDead old dead cleanup _ new = ⊥
 
 -- how registering a node is answered
 abbrev pub ServesRegister : Service → ℕ → Reply → Service → Type 0

@@ -15,13 +15,11 @@ use Rattle.service_examples.specs.Removal.{others, OnlyOthersStay, ports_without
 use Rattle.iox2_dynamic.specs.declared.dynamic_config.answers.DeregisterNodeState.{DeregisterNodeState}
 use Rattle.iox2_dynamic.specs.declared.dynamic_config.answers.PortCleanupAction.{PortCleanupAction}
 use Rattle.iox2_dynamic.specs.declared.dynamic_config.port_details.PortDetails.{PortDetails}
-use Rattle.iox2_dynamic.specs.Recoveries.{CallsCleanup, RecoversPorts, RecoversNodes, removes}
+use Rattle.iox2_dynamic.specs.Ports.{CallsCleanup, RecoversPorts, RecoversNodes, removes, has_ports_of}
 use Rattle.iox2_dynamic.specs.Details.{node_of, port_of}
-use Rattle.iox2_dynamic.specs.Ports.{has_ports_of}
 use Rattle.iox2_dynamic.specs.Service.{Service}
-use Rattle.iox2_dynamic.specs.Steps.{DeadStep}
+use Rattle.iox2_dynamic.specs.Steps.{DeadStep, state_of}
 use Rattle.iox2_dynamic.specs.declared.dynamic_config.answers.PortCleanupAction.TheVariants.{RemovePort}
-use Rattle.iox2_dynamic.specs.Answers.{state_of}
 
 same_order : (a b : ℕ) → (a == b) ≡ (b == a)
 same_order a b = grind (arith, nat_tests)

@@ -3,7 +3,7 @@ use Rattle.std.specs.Prelude.{◌≡◌, ℕ, List, filter, length}
 use Rattle.iox2_container.specs.Calls.{is_outside}
 use Rattle.iox2_container.specs.State.{Entry, RegistryState}
 use Rattle.iox2_container.specs.Steps.{lock_after}
-use Rattle.iox2_container.specs.declared.container.release.ReleaseMode.TheVariants.{LockIfLastIndex}
+use Rattle.iox2_container.specs.declared.container.registry.ReleaseMode.TheVariants.{LockIfLastIndex}
 use Rattle.iox2_dynamic.specs.declared.dynamic_config.port_details.PortDetails.{PortDetails}
 use Rattle.iox2_dynamic.specs.Details.{node_of}
 use Rattle.iox2_dynamic.specs.Service.{Service}

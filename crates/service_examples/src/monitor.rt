@@ -1,7 +1,7 @@
 //! A liveness monitor: takes dead nodes out of a service.
 ghost use Rattle.std.specs.Prelude.{◌≡◌, [], ◌∷◌, MatchOption};
 ghost use Rattle.iox2_container.specs.Steps.{release_state};
-ghost use Rattle.iox2_dynamic.specs.Answers.{state_of};
+ghost use Rattle.iox2_dynamic.specs.Steps.{state_of};
 ghost use Rattle.service_examples.specs.Removal.{OnlyOthersStay};
 
 use iox2_dynamic::dynamic_config::{DeregisterNodeState, DynamicConfig, PortCleanupAction};

@@ -9,9 +9,9 @@ ghost use Rattle.iox2_container.specs.Calls.{handle_given};
 ghost use Rattle.iox2_container.specs.Calls.{AgreesBy, EquallyMany};
 
 use super::handle::ContainerHandle;
-use super::refusal::ContainerAddFailure;
-use super::registry::{Attached, Registry, entries};
-use super::release::{ReleaseMode, ReleaseState};
+use super::registry::{
+    Attached, ContainerAddFailure, Registry, ReleaseMode, ReleaseState, entries,
+};
 use iox2_ids::identifiers::UniqueNodeId;
 use std::alloc::{AllocError, Global};
 

@@ -1,19 +1,16 @@
 //! A container as its changes see it.
 ghost use Rattle.std.specs.Prelude.{◌≡◌, ◌+◌, ◌-◌, ◌≤◌, ◌<◌, ◌↔◌, IfOk, IsTrue, length};
 ghost use Rattle.std.specs.Fn.{CalledAt, TakesAt};
-ghost use Rattle.iox2_container.specs.Callbacks.{CanBeCalled};
-ghost use Rattle.iox2_container.specs.Changes.{Adds, Removes, RecoversBy};
-ghost use Rattle.iox2_container.specs.ContainerState.{fresh};
-ghost use Rattle.iox2_container.specs.State.{IsRegistry};
-ghost use Rattle.iox2_container.specs.Steps.{details_where, is_of, lock_after, release_state};
+ghost use Rattle.iox2_container.specs.Steps.{CanBeCalled, Adds, Removes, RecoversBy, details_where};
+ghost use Rattle.iox2_container.specs.Steps.{is_of, lock_after, release_state};
+ghost use Rattle.iox2_container.specs.State.{fresh, IsRegistry};
 
 use super::free::SlotAllocator;
-use super::handle::ContainerHandle;
+use super::handle::{ContainerHandle, Role};
 use super::passes::{sweep, take_out};
-use super::refusal::{ContainerAddFailure, ContainerRemoveError};
-use super::registry::Attached;
-use super::release::{ReleaseMode, ReleaseState};
-use super::role::Role;
+use super::registry::{
+    Attached, ContainerAddFailure, ContainerRemoveError, ReleaseMode, ReleaseState,
+};
 use super::slot_map::slots::EntrySlots;
 use iox2_ids::identifiers::UniqueNodeId;
 use std::alloc::{AllocError, Global};
@@ -72,9 +69,8 @@ pub struct CountedMap<T: Copy, S: SlotAllocator<T>> {
 
 impl<T: Copy, S: SlotAllocator<T>> Model for CountedMap<T, S> {
     ghost use Rattle.std.specs.Prelude.{map};
-    ghost use Rattle.iox2_container.specs.Cells.{shown};
-    ghost use Rattle.iox2_container.specs.ContainerState.{ContainerState};
-    ghost use Rattle.iox2_container.specs.SlotEntries.{registry_of, AreRegistry};
+    ghost use Rattle.iox2_container.specs.Cells.{shown, registry_of, AreRegistry};
+    ghost use Rattle.iox2_container.specs.State.{ContainerState};
 
     ghost Value = { ContainerState T };
 

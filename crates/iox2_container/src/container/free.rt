@@ -2,14 +2,12 @@
 //! or by a scan for the lowest.
 ghost use Rattle.std.specs.Prelude.{◌≡◌, ◌≢◌, ◌+◌, ◌*◌, ◌≤◌, ◌<◌, ℕ, List, [], ◌∷◌, Some, None};
 ghost use Rattle.std.specs.Prelude.{length, map, replicate, slice_get, slice_set};
-ghost use Rattle.iox2_container.specs.declared.container.cell.Cell.{Cell};
-ghost use Rattle.iox2_container.specs.declared.container.cell.Cell.TheVariants.{Free};
-ghost use Rattle.iox2_container.specs.Cells.{occupant, shown};
-ghost use Rattle.iox2_container.specs.SlotEntries.{IsTakenAt, NoneFrom, entries_from};
+ghost use Rattle.iox2_container.specs.declared.container.slot_map.slots.Cell.{Cell};
+ghost use Rattle.iox2_container.specs.declared.container.slot_map.slots.Cell.TheVariants.{Free};
+ghost use Rattle.iox2_container.specs.Cells.{occupant, shown, IsTakenAt, NoneFrom, entries_from};
 ghost use Rattle.iox2_container.specs.FreeList.{AreFreed, IsFreeList, PutsFirst};
 
-use super::cell::Cell;
-use super::slot_map::slots::EntrySlots;
+use super::slot_map::slots::{Cell, EntrySlots};
 use std::fmt::Debug;
 
 /// Finds free slots, by what it keeps and what the slots keep.

@@ -2,17 +2,14 @@
 ghost use Rattle.std.specs.Prelude.{◌≡◌, ◌+◌, ◌≤◌, ◌<◌, IfNone, IfSome, IsSome, IsTrue, None, false};
 ghost use Rattle.std.specs.Prelude.{MatchOption, length, map, slice_set, if◌then◌else◌};
 ghost use Rattle.std.specs.Fn.{CalledAt, TakesAt};
-ghost use Rattle.iox2_container.specs.Cells.{shown};
-ghost use Rattle.iox2_container.specs.SlotEntries.{Finds, IsTakenAt, entries_from};
-ghost use Rattle.iox2_container.specs.Callbacks.{CanBeCalled};
+ghost use Rattle.iox2_container.specs.Cells.{shown, Finds, IsTakenAt, entries_from};
+ghost use Rattle.iox2_container.specs.Steps.{CanBeCalled, candidates, is_of};
 ghost use Rattle.iox2_container.specs.Passes.{AreOthers, IsNextOf, Swept, looked_at};
-ghost use Rattle.iox2_container.specs.Steps.{candidates, is_of};
 
-use super::cell::with_ticket;
 use super::free::SlotAllocator;
 use super::handle::ContainerHandle;
 use super::registry::Attached;
-use super::slot_map::slots::EntrySlots;
+use super::slot_map::slots::{EntrySlots, with_ticket};
 use iox2_ids::identifiers::UniqueNodeId;
 
 /// An entry that a search found, and where.

@@ -2,18 +2,15 @@
 ghost use Rattle.std.specs.Prelude.{◌≡◌, ◌+◌, ◌≤◌, ◌<◌, ℕ, length, map, nat_lt, true};
 ghost use Rattle.std.specs.Bool.{MatchBool};
 ghost use Rattle.std.specs.Fn.{CalledAt, TakesAt};
-ghost use Rattle.iox2_container.specs.Cells.{shown};
-ghost use Rattle.iox2_container.specs.SlotEntries.{Finds, NoneFrom, details_in, entries_from};
-ghost use Rattle.iox2_container.specs.Callbacks.{CanVisit};
+ghost use Rattle.iox2_container.specs.Cells.{shown, Finds, NoneFrom, details_in, entries_from};
+ghost use Rattle.iox2_container.specs.Steps.{CanVisit, Visit, candidates, is_of};
 ghost use Rattle.iox2_container.specs.Passes.{AreOthers, CalledOnCell, IsLastOf, SlotIsOf};
 ghost use Rattle.iox2_container.specs.Passes.{TakesCell};
-ghost use Rattle.iox2_container.specs.Steps.{Visit, candidates, is_of};
 
-use super::cell::{Occupant, with_ticket};
 use super::handle::ContainerHandle;
 use super::registry::Attached;
 use super::slot_map::Touches;
-use super::slot_map::slots::EntrySlots;
+use super::slot_map::slots::{EntrySlots, Occupant, with_ticket};
 use iox2_ids::identifiers::UniqueNodeId;
 use iox2_texts::bounded::CallbackProgression;
 

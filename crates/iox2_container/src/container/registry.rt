@@ -1,17 +1,15 @@
-//! The contract of a registry, on which everything above rests, and of the details in it.
+//! The contract of a registry, on which everything above rests: of the details in it, of why it
+//! refuses, and of how entries leave and what that does to the lock.
 ghost use Rattle.std.specs.Prelude.{◌≡◌, ℕ, ◌+◌, ◌≤◌, ◌<◌, ◌↔◌, ◌++◌, ◌∷◌, [], IfOk, IsTrue, MatchOption};
 ghost use Rattle.std.specs.Prelude.{length, nat_lt, vec_capacity, vec_len};
 ghost use Rattle.std.specs.Fn.{CalledAt, TakesAt};
-ghost use Rattle.iox2_container.specs.Callbacks.{CanBeCalled, CanVisit};
-ghost use Rattle.iox2_container.specs.Changes.{Adds, Removes, RecoversBy};
-ghost use Rattle.iox2_container.specs.ContainerState.{ContainerState};
-ghost use Rattle.iox2_container.specs.State.{IsRegistry};
-ghost use Rattle.iox2_container.specs.Steps.{IsUnknownHandle, HasEntry, TakesEntry, Visit};
-ghost use Rattle.iox2_container.specs.Steps.{details_where, entries_of, is_of, listed};
+ghost use Rattle.iox2_container.specs.Steps.{Adds, CanBeCalled, CanVisit, HasEntry};
+ghost use Rattle.iox2_container.specs.Steps.{IsUnknownHandle};
+ghost use Rattle.iox2_container.specs.Steps.{RecoversBy, Removes, TakesEntry, Visit, details_where};
+ghost use Rattle.iox2_container.specs.Steps.{entries_of, is_of, listed, lock_after, release_state};
+ghost use Rattle.iox2_container.specs.State.{ContainerState, IsRegistry};
 
 use super::handle::ContainerHandle;
-use super::refusal::{ContainerAddFailure, ContainerRemoveError};
-use super::release::{ReleaseMode, ReleaseState};
 use iox2_ids::identifiers::UniqueNodeId;
 use iox2_texts::bounded::CallbackProgression;
 use std::alloc::{AllocError, Global};
@@ -46,6 +44,65 @@ impl Attached for UniqueNodeId {
 
     fn key(&self) -> u128 {
         self.value()
+    }
+}
+
+/// Why a container takes no entry. A locked one says so, full or not.
+#[derive(Clone, Copy, Debug, PartialEq, Eq)]
+pub enum ContainerAddFailure {
+    /// The container is locked for good.
+    IsLocked,
+    /// Every slot is taken, or every ticket is used.
+    OutOfSpace,
+}
+
+/// Why a container removes no entry.
+#[derive(Clone, Copy, Debug, PartialEq, Eq)]
+pub enum ContainerRemoveError {
+    /// No entry of the container has this handle.
+    ContainerHandleNotOwnedByContainer,
+}
+
+/// Whether a container is locked when its last entry leaves.
+#[derive(Clone, Copy, Debug, PartialEq, Eq)]
+pub enum ReleaseMode {
+    /// It stays as it is.
+    Default,
+    /// It is locked for good.
+    LockIfLastIndex,
+}
+
+impl ReleaseMode {
+    /// The lock after an entry was removed, where this many are left.
+    pub(super) fn lock_after(self, left: usize, locked: bool) -> bool
+        ensures { (before : ℕ) → left < before → result ≡ lock_after self before left locked }
+    {
+        match self {
+            ReleaseMode::LockIfLastIndex => left == 0 || locked,
+            ReleaseMode::Default => locked,
+        }
+    }
+}
+
+/// Whether a container is locked after entries left.
+#[derive(Clone, Copy, Debug, PartialEq, Eq)]
+pub enum ReleaseState {
+    /// It is empty, and takes no entry any more.
+    Locked,
+    /// It takes entries, as far as its capacity allows.
+    Unlocked,
+}
+
+impl ReleaseState {
+    /// The state by whether the container is locked.
+    pub(super) fn of(locked: bool) -> Self
+        ensures { result ≡ release_state locked }
+    {
+        if locked {
+            ReleaseState::Locked
+        } else {
+            ReleaseState::Unlocked
+        }
     }
 }
 

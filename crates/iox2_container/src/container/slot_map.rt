@@ -1,16 +1,15 @@
 //! The one container, whatever finds its free slots.
 ghost use Rattle.std.specs.Prelude.{◌≡◌, ◌+◌, ℕ, IfOk};
 ghost use Rattle.std.specs.Borrow.{ftrue};
-ghost use Rattle.iox2_container.specs.ContainerState.{fresh};
+ghost use Rattle.iox2_container.specs.State.{fresh};
 
 use super::counted_map::CountedMap;
 use super::free::{FreeList, LowestFree, SlotAllocator};
-use super::handle::ContainerHandle;
+use super::handle::{ContainerHandle, Role};
 use super::queries::{count_of, find, has_entry, visit};
-use super::refusal::{ContainerAddFailure, ContainerRemoveError};
-use super::registry::{Attached, Registry};
-use super::release::{ReleaseMode, ReleaseState};
-use super::role::Role;
+use super::registry::{
+    Attached, ContainerAddFailure, ContainerRemoveError, Registry, ReleaseMode, ReleaseState,
+};
 use iox2_ids::identifiers::UniqueNodeId;
 use iox2_texts::bounded::CallbackProgression;
 use std::alloc::{AllocError, Global};
@@ -76,7 +75,7 @@ pub struct SlotMap<T: Copy, S: SlotAllocator<T>> {
 }
 
 impl<T: Copy, S: SlotAllocator<T>> Model for SlotMap<T, S> {
-    ghost use Rattle.iox2_container.specs.ContainerState.{ContainerState};
+    ghost use Rattle.iox2_container.specs.State.{ContainerState};
 
     ghost Value = { ContainerState T };
 

@@ -1,6 +1,6 @@
 //! The results of the calls on a service, and of the callback of one of them.
 ghost use Rattle.std.specs.Prelude.{◌≡◌};
-ghost use Rattle.iox2_dynamic.specs.Answers.{state_of};
+ghost use Rattle.iox2_dynamic.specs.Steps.{state_of};
 
 use iox2_container::container::ReleaseState;
 

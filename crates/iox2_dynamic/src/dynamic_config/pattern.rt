@@ -1,24 +1,22 @@
 //! The ports of a service, by its pattern: a registry for each of two kinds of ports.
 ghost use Rattle.std.specs.Prelude.{◌≡◌, ◌↔◌, IfNone, IfOk, IfSome, IsTrue, MatchOption, length, vec_capacity};
 ghost use Rattle.std.specs.Fn.{CalledAt, TakesAt};
-ghost use Rattle.iox2_container.specs.Callbacks.{CanBeCalled, CanVisit};
-ghost use Rattle.iox2_container.specs.Steps.{Visit, listed};
+ghost use Rattle.iox2_container.specs.Steps.{CanBeCalled, CanVisit, Visit, listed};
 ghost use Rattle.iox2_dynamic.specs.Details.{role_of};
 ghost use Rattle.iox2_dynamic.specs.Patterns.{kind_of_service, ports_of};
 ghost use Rattle.iox2_dynamic.specs.Ports.{ports_as, empty_ports, has_ports_of, IsNoPort, OfRole};
 ghost use Rattle.iox2_dynamic.specs.Ports.{RemovesFrom, RecoversBoth, CountsIn, CanListIn, ListsIn};
-ghost use Rattle.iox2_dynamic.specs.Ports.{StandsAmong, TakesIn, TouchesFew, port_ids_of_node, ports_of_node};
+ghost use Rattle.iox2_dynamic.specs.Ports.{StandsAmong, TakesIn, TouchesFew, port_ids_of_node};
+ghost use Rattle.iox2_dynamic.specs.Ports.{ports_of_node};
 ghost use Rattle.iox2_dynamic.specs.Service.{HasRole, LacksRole, first_role, second_role, capacities_in, fresh_ports};
 ghost use Rattle.iox2_dynamic.specs.Steps.{Admits, AttachesTo};
 
 use super::answers::{AttachError, PortCleanupAction};
 use super::blackboard::DynamicConfig as BlackboardPorts;
-use super::details::PortKind;
 use super::event::DynamicConfig as EventPorts;
-use super::listing::{append_details_of, details, list_details};
-use super::port_details::PortDetails;
+use super::port_details::{PortDetails, PortKind};
+use super::port_registry::{append_details_of, details, list_details, recover_ports};
 use super::publish_subscribe::DynamicConfig as PublishSubscribePorts;
-use super::recovery::recover_ports;
 use super::request_response::DynamicConfig as RequestResponsePorts;
 use super::settings::MessagingPatternSettings;
 use iox2_container::container::{
@@ -41,7 +39,7 @@ pub struct PortRegistries<A: Copy, B: Copy> {
 }
 
 impl<A: Copy, B: Copy> Model for PortRegistries<A, B> {
-    ghost use Rattle.iox2_dynamic.specs.PortsState.{PortsState};
+    ghost use Rattle.iox2_dynamic.specs.Ports.{PortsState};
 
     ghost Value = { PortsState A B };
 

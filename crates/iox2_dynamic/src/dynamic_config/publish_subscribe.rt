@@ -1,13 +1,12 @@
 //! The ports of a service of the pattern publish-subscribe.
 ghost use Rattle.std.specs.Prelude.{◌≡◌, IfOk, length};
 ghost use Rattle.std.specs.Fn.{CalledAt, TakesAt};
-ghost use Rattle.iox2_container.specs.Callbacks.{CanVisit};
-ghost use Rattle.iox2_container.specs.declared.container.role.Role.TheVariants as role;
-ghost use Rattle.iox2_container.specs.Steps.{Visit, listed};
+ghost use Rattle.iox2_container.specs.Steps.{CanVisit, Visit, listed};
+ghost use Rattle.iox2_container.specs.declared.container.handle.Role.TheVariants as role;
 ghost use Rattle.iox2_dynamic.specs.Ports.{empty_ports};
 
-use super::details::{PublisherDetails, SubscriberDetails};
 use super::pattern::PortRegistries;
+use super::port_details::{PublisherDetails, SubscriberDetails};
 use iox2_container::container::Registry;
 use iox2_texts::bounded::CallbackProgression;
 use std::alloc::{AllocError, Global};

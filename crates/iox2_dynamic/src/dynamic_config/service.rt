@@ -1,26 +1,23 @@
 //! A service: its nodes and the ports of its pattern.
-ghost use Rattle.std.specs.Prelude.{◌≡◌, ◌+◌, ◌≤◌, ◌↔◌, IfNone, IfOk, IfSome, IsTrue};
+ghost use Rattle.std.specs.Prelude.{◌≡◌, ◌+◌, ◌≤◌, ◌↔◌, IfNone, IfOk, IfSome, IsTrue, true};
 ghost use Rattle.std.specs.Fn.{CalledAt, TakesAt};
 ghost use Rattle.iox2_config.specs.declared.hash.input.PatternKind.TheVariants as kind;
-ghost use Rattle.iox2_container.specs.Callbacks.{CanBeCalled, CanVisit};
-ghost use Rattle.iox2_container.specs.Steps.{Visit, listed, release_state};
+ghost use Rattle.iox2_container.specs.Steps.{CanBeCalled, CanVisit, Visit, listed, release_state};
 ghost use Rattle.iox2_dynamic.specs.declared.dynamic_config.port_details.PortDetails.TheVariants as of;
-ghost use Rattle.iox2_dynamic.specs.Answers.{state_of};
 ghost use Rattle.iox2_dynamic.specs.Details.{role_of};
 ghost use Rattle.iox2_dynamic.specs.Patterns.{kind_of_service, ports_of};
 ghost use Rattle.iox2_dynamic.specs.Ports.{ports_as, port_ids_of_node, CountsIn, CanListIn, ListsIn};
-ghost use Rattle.iox2_dynamic.specs.Ports.{TouchesFew};
+ghost use Rattle.iox2_dynamic.specs.Ports.{RecoversNodes, TouchesFew};
 ghost use Rattle.iox2_dynamic.specs.Service.{IsService, HasRole, LacksRole, first_role, second_role};
 ghost use Rattle.iox2_dynamic.specs.Service.{capacities_in, fresh_service};
 ghost use Rattle.iox2_dynamic.specs.Steps.{RegisterStep, DeregisterStep, AttachStep, ReleaseStep};
-ghost use Rattle.iox2_dynamic.specs.Steps.{DeadStep, is_last_of_ports};
+ghost use Rattle.iox2_dynamic.specs.Steps.{DeadStep, is_last_of_ports, state_of};
 
 use super::answers::{
     AttachError, DeregisterError, DeregisterNodeState, PortCleanupAction, RegisterNodeResult,
 };
 use super::pattern::{MessagingPattern, ServiceRegistry, of_any_pattern};
 use super::port_details::PortDetails;
-use super::recovery::recover_nodes;
 use super::settings::{MessagingPatternSettings, PortRoles};
 use super::{blackboard, event, publish_subscribe, request_response};
 use iox2_config::hash::PatternKind;
@@ -76,6 +73,17 @@ fn is_last_of_ports(
     }) }
 {
     pattern.has_ports_of(id) && nodes.entries_of(id) == 1
+}
+
+/// Removes each entry of the node.
+#[tactic(auto, using(iox2_container::proofs::Callable::callbacks))]
+fn recover_nodes(nodes: &mut ServiceRegistry<UniqueNodeId>, dead: &UniqueNodeId) -> ReleaseState
+    ensures { RecoversNodes dead.now nodes.old result nodes.new }
+{
+    let mut goes = |_id: &UniqueNodeId| -> bool
+        ensures { result ≡ true }
+    { true };
+    nodes.recover(dead, &mut goes, ReleaseMode::LockIfLastIndex)
 }
 
 impl DynamicConfig {

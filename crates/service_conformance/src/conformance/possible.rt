@@ -1,6 +1,6 @@
 //! The replies that a run could give.
 ghost use Rattle.std.specs.Prelude.{◌≡◌};
-ghost use Rattle.iox2_dynamic.specs.PortsState.{side_of};
+ghost use Rattle.iox2_dynamic.specs.Ports.{side_of};
 ghost use Rattle.service_conformance.specs.Possible.{possible_add};
 ghost use Rattle.service_conformance.specs.Sides.{part_at};
 

@@ -1,12 +1,10 @@
 //! What a registry must hold, by the calls on it that were seen.
 ghost use Rattle.std.specs.Prelude.{◌≡◌, ◌↔◌, All, IsTrue, Ok, IfOk, IfNone, IfSome, OnOk, OnErr, filter, length, not};
 ghost use Rattle.std.specs.List.{list_any};
-ghost use Rattle.iox2_container.specs.ContainerState.{fresh};
-ghost use Rattle.iox2_container.specs.State.{IsRegistry, RegistryState};
-ghost use Rattle.iox2_container.specs.Handle.{Handle};
+ghost use Rattle.iox2_container.specs.State.{fresh, IsRegistry, RegistryState, Handle};
 ghost use Rattle.iox2_container.specs.Steps.{AddStep, HasEntry, IsUnknownHandle, RemoveStep, TakesEntry};
 ghost use Rattle.iox2_container.specs.Steps.{entries_of, is_of, listed, lock_after};
-ghost use Rattle.iox2_container.specs.declared.container.release.ReleaseState.{ReleaseState};
+ghost use Rattle.iox2_container.specs.declared.container.registry.ReleaseState.{ReleaseState};
 ghost use Rattle.iox2_dynamic.specs.Details.{node_of};
 ghost use Rattle.iox2_dynamic.specs.Service.{entries_of_node};
 ghost use Rattle.service_conformance.specs.Dead.{stays, without_node, without_ports};

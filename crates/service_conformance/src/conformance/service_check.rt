@@ -1,14 +1,13 @@
 //! What a service must hold, by the commands and replies that were seen.
 ghost use Rattle.std.specs.Prelude.{◌≡◌, ◌↔◌, ◌-◌, ◌^◌, ◌<◌, ◌||◌, IfNone, IfOk, IfSome, IsTrue, OnErr};
 ghost use Rattle.std.specs.List.{list_any};
-ghost use Rattle.iox2_dynamic.specs.Ports.{has_ports_of};
+ghost use Rattle.iox2_dynamic.specs.Ports.{has_ports_of, side_of};
 ghost use Rattle.iox2_dynamic.specs.Service.{IsService, capacities_in, entries_of_node, fresh_service};
 ghost use Rattle.iox2_dynamic.specs.Steps.{is_last_of_ports};
 ghost use Rattle.service_conformance.specs.Dead.{after_dead, ports_after, stays};
 ghost use Rattle.service_conformance.specs.Given.{Becomes, GivesNode, GivesNodes, GivesPort};
 ghost use Rattle.service_conformance.specs.Given.{GivesPorts};
 ghost use Rattle.service_conformance.specs.Quiet.{ports_at_rest, quiet};
-ghost use Rattle.iox2_dynamic.specs.PortsState.{side_of};
 ghost use Rattle.service_conformance.specs.Sides.{HasPart, LacksPart, ports_at};
 ghost use Rattle.service_conformance.specs.Entries.{service_hash};
 

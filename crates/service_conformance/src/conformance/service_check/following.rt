@@ -3,8 +3,8 @@ ghost use Rattle.std.specs.Prelude.{◌≡◌, OnOk, OnErr};
 ghost use Rattle.service_conformance.specs.Calls.{ServesRequest};
 ghost use Rattle.service_conformance.specs.Possible.{reply_in};
 ghost use Rattle.service_conformance.specs.Quiet.{CanServe, LeadsTo};
-ghost use Rattle.service_descriptions.specs.Cleanups.{ServesDead};
-ghost use Rattle.service_descriptions.specs.Steps.{ServesAdd, ServesDeregister, ServesRegister, ServesRelease};
+ghost use Rattle.service_descriptions.specs.Steps.{ServesDead, ServesAdd, ServesDeregister};
+ghost use Rattle.service_descriptions.specs.Steps.{ServesRegister, ServesRelease};
 ghost use Rattle.service_descriptions.specs.declared.replay.machine.command.Cleanup.TheVariants as cleanup;
 
 use super::super::line_reply::{LineReply, given, is_removal};

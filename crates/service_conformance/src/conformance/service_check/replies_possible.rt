@@ -1,7 +1,7 @@
 //! The replies that a command may have, and who is there.
 ghost use Rattle.std.specs.Option.{option_map};
 ghost use Rattle.std.specs.Prelude.{◌≡◌, ◌++◌, ◌<◌, IfNone, IfOk, IfSome, map};
-ghost use Rattle.iox2_container.specs.Handle.{Handle};
+ghost use Rattle.iox2_container.specs.State.{Handle};
 ghost use Rattle.iox2_container.specs.Steps.{listed};
 ghost use Rattle.iox2_dynamic.specs.Service.{IsService};
 ghost use Rattle.service_conformance.specs.Looks.{ids_in};
@@ -10,9 +10,9 @@ ghost use Rattle.service_conformance.specs.Quiet.{Reports, quiet};
 ghost use Rattle.service_conformance.specs.Calls.{ServesRequest};
 ghost use Rattle.service_conformance.specs.Seen.{seen_text};
 ghost use Rattle.service_conformance.specs.Words.{ArePossibleWords, IsNextIn, ReadsReply, ReadsReplyHandle, handle_words};
-ghost use Rattle.service_descriptions.specs.Cleanups.{ServesDead};
-ghost use Rattle.service_descriptions.specs.Listings.{ServesCount, ServesList, ServesNodes};
-ghost use Rattle.service_descriptions.specs.Steps.{ServesAdd, ServesDeregister, ServesRegister, ServesRelease};
+ghost use Rattle.service_descriptions.specs.Steps.{ServesDead, ServesCount, ServesList};
+ghost use Rattle.service_descriptions.specs.Steps.{ServesNodes, ServesAdd, ServesDeregister};
+ghost use Rattle.service_descriptions.specs.Steps.{ServesRegister, ServesRelease};
 ghost use Rattle.service_descriptions.specs.declared.replay.machine.command.Cleanup.TheVariants as cleanup;
 
 use super::super::line_reply::{LineReply, reply_of_owners};

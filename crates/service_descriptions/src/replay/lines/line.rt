@@ -2,7 +2,7 @@
 ghost use Rattle.std.specs.Prelude.{◌++◌, ℕ, IfOk, codes};
 ghost use Rattle.std.specs.Option.{option_map};
 ghost use Rattle.iox2_config.specs.declared.hash.input.PatternKind.{PatternKind as Kind};
-ghost use Rattle.iox2_container.specs.declared.container.role.Role.{Role as OneRole};
+ghost use Rattle.iox2_container.specs.declared.container.handle.Role.{Role as OneRole};
 ghost use Rattle.iox2_dynamic.specs.declared.dynamic_config.port_details.PortDetails.{PortDetails as Details};
 ghost use Rattle.line_streams.specs.Spelling.{Reads};
 ghost use Rattle.service_descriptions.specs.Lines.{command_of, line_of, HasLine, IsLine, line_text};

@@ -3,8 +3,8 @@ ghost use Rattle.std.specs.Prelude.{◌≡◌, ◌==◌};
 ghost use Rattle.std.specs.List.{list_any};
 ghost use Rattle.iox2_dynamic.specs.Service.{IsService};
 ghost use Rattle.iox2_ids.specs.PortId.{port_value};
-ghost use Rattle.service_descriptions.specs.Cleanups.{CleanedUp, action_for};
-ghost use Rattle.service_descriptions.specs.Cleanups.{first_action, other_actions};
+ghost use Rattle.service_descriptions.specs.Steps.{CleanedUp, action_for, first_action};
+ghost use Rattle.service_descriptions.specs.Steps.{other_actions};
 ghost use Rattle.service_descriptions.specs.declared.replay.machine.command.Cleanup.TheVariants as cleanups;
 
 use iox2_dynamic::dynamic_config::{DeregisterNodeState, DynamicConfig, PortCleanupAction};

@@ -1,16 +1,16 @@
 //! A service under commands, without what describes it, and the reply to one command.
 ghost use Rattle.std.specs.Prelude.{◌≡◌, ℕ, IfOk, IfSome, Option, OnErr};
 ghost use Rattle.iox2_dynamic.specs.Service.{IsService, capacities_in};
-ghost use Rattle.service_descriptions.specs.Cleanups.{ServesDead, reply_of_owners};
-ghost use Rattle.service_descriptions.specs.Fields.{described};
-ghost use Rattle.service_descriptions.specs.Handles.{handle_at, handles_in, named};
-ghost use Rattle.service_descriptions.specs.LineAnswers.{LineStep, handle_given};
-ghost use Rattle.service_descriptions.specs.Lines.{command_of};
-ghost use Rattle.service_descriptions.specs.Listings.{ServesCount, ServesList};
-ghost use Rattle.service_descriptions.specs.Replies.{reply_of};
-ghost use Rattle.service_descriptions.specs.Steps.{ServesAdd, ServesDeregister};
+ghost use Rattle.service_descriptions.specs.Steps.{ServesDead, reply_of_owners, ServesCount};
+ghost use Rattle.service_descriptions.specs.Steps.{ServesList, ServesAdd, ServesDeregister};
 ghost use Rattle.service_descriptions.specs.Steps.{ServesRegister, ServesRelease, ServiceStep};
 ghost use Rattle.service_descriptions.specs.Steps.{IsState, handle_in, new_state};
+ghost use Rattle.service_descriptions.specs.Fields.{described};
+ghost use Rattle.service_descriptions.specs.Fields.{handle_at, handles_in};
+ghost use Rattle.service_descriptions.specs.Steps.{named};
+ghost use Rattle.service_descriptions.specs.LineAnswers.{LineStep, handle_given};
+ghost use Rattle.service_descriptions.specs.Lines.{command_of};
+ghost use Rattle.service_descriptions.specs.Replies.{reply_of};
 ghost use Rattle.service_descriptions.specs.declared.replay.machine.command.Cleanup.TheVariants as cleanup;
 
 use super::cleanup::{by_order, by_port};

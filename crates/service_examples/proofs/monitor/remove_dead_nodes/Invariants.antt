@@ -1,7 +1,7 @@
 use Rattle.std.proofs.Common.{◌≡◌, [], take}
 use Rattle.std.specs.Prelude.{MatchOption}
 use Rattle.iox2_container.specs.Steps.{release_state}
-use Rattle.iox2_dynamic.specs.Answers.{state_of}
+use Rattle.iox2_dynamic.specs.Steps.{state_of}
 use Rattle.service_examples.specs.Removal.{OnlyOthersStay}
 use Rattle.service_examples.proofs.monitor.remove_dead_nodes.Given as goal
 

@@ -3,7 +3,7 @@ use Rattle.std.proofs.lemmas.List.{length-map}
 use Rattle.iox2_dynamic.proofs.Names.{listed}
 use Rattle.iox2_container.proofs.Callable.{all_listed, room_to_put}
 use Rattle.iox2_container.proofs.Mapped.{listed-as}
-use Rattle.iox2_dynamic.proofs.dynamic_config.listing.details.Goals as goal
+use Rattle.iox2_dynamic.proofs.dynamic_config.port_registry.details.Goals as goal
 
 pub for_each-requires : goal.for_each-requires
 for_each-requires g c =

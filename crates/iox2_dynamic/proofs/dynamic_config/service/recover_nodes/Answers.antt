@@ -1,6 +1,6 @@
 use Rattle.std.proofs.Common.{◌≡◌, true}
 use Rattle.iox2_container.proofs.Mapped.{RecoversBy-through}
-use Rattle.iox2_dynamic.proofs.dynamic_config.recovery.recover_nodes.Goals as goal
+use Rattle.iox2_dynamic.proofs.dynamic_config.service.recover_nodes.Goals as goal
 
 pub returns : goal.returns
 returns c =

@@ -3,7 +3,7 @@ use Rattle.std.specs.Fn.{CalledAt, TakesAt}
 use Rattle.iox2_dynamic.proofs.Names.{CanVisit, Visit, listed}
 use Rattle.iox2_container.proofs.Callable.{CanVisit-lent}
 use Rattle.iox2_container.proofs.Mapped.{Visit-lent, listed-as}
-use Rattle.iox2_dynamic.proofs.dynamic_config.listing.list_details.Goals as goal
+use Rattle.iox2_dynamic.proofs.dynamic_config.port_registry.list_details.Goals as goal
 
 pub for_each-requires : goal.for_each-requires
 for_each-requires g c =

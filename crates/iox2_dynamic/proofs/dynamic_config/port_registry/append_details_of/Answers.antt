@@ -5,7 +5,7 @@ use Rattle.iox2_dynamic.proofs.Names.{RegistryState, registry_as, details_where,
 use Rattle.iox2_container.proofs.Callable.{CanVisit-collecting, collects}
 use Rattle.iox2_container.proofs.Lists.{filter-map}
 use Rattle.iox2_container.proofs.Mapped.{called-as}
-use Rattle.iox2_dynamic.proofs.dynamic_config.listing.append_details_of.Goals as goal
+use Rattle.iox2_dynamic.proofs.dynamic_config.port_registry.append_details_of.Goals as goal
 
 -- the details of a node are as many as its entries
 as_many : {T : Type 0} (node : T → ℕ) (id : ℕ) (r : RegistryState T)

@@ -6,7 +6,7 @@ use Rattle.iox2_dynamic.proofs.Names.{CanBeCalled, details_where, is_of, CallsCl
 use Rattle.iox2_container.proofs.Callable.{CanBeCalled-lent}
 use Rattle.iox2_container.proofs.Mapped.{RecoversBy-lent, called-as}
 use Rattle.iox2_dynamic.proofs.Recoveries.{RecoversPorts-as, left_noted}
-use Rattle.iox2_dynamic.proofs.dynamic_config.recovery.recover_ports.Goals as goal
+use Rattle.iox2_dynamic.proofs.dynamic_config.port_registry.recover_ports.Goals as goal
 
 pub recover-requires : goal.recover-requires
 recover-requires g c =

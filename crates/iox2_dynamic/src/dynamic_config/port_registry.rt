@@ -1,17 +1,20 @@
-//! Ports shown as details of ports of any kind.
-ghost use Rattle.std.specs.Prelude.{◌≡◌, ◌+◌, ◌≤◌, ◌<◌, ◌++◌, ◌∷◌, [], IfOk, IsTrue, length, vec_capacity, vec_len};
+//! The ports of one kind, seen as ports of any kind: how they are listed, and how those of a dead
+//! node are recovered.
+ghost use Rattle.std.specs.Prelude.{◌≡◌, ◌+◌, ◌≤◌, ◌<◌, ◌++◌, ◌∷◌, ◌||◌, [], IfOk, IsTrue, length};
+ghost use Rattle.std.specs.Prelude.{nat_lt, not, vec_capacity, vec_len};
 ghost use Rattle.std.specs.Fn.{CalledAt, TakesAt};
-ghost use Rattle.iox2_container.specs.Callbacks.{CanVisit};
-ghost use Rattle.iox2_container.specs.Steps.{Visit, details_where, entries_of, is_of, listed};
-ghost use Rattle.iox2_container.specs.Mapped.{registry_as};
-ghost use Rattle.iox2_dynamic.specs.Details.{node_of};
-ghost use Rattle.iox2_dynamic.specs.Ports.{PutsIf};
+ghost use Rattle.iox2_container.specs.State.{container_as, registry_as};
+ghost use Rattle.iox2_container.specs.Steps.{CanBeCalled, CanVisit, Visit, details_where};
+ghost use Rattle.iox2_container.specs.Steps.{entries_of};
+ghost use Rattle.iox2_container.specs.Steps.{is_of, listed};
+ghost use Rattle.iox2_dynamic.specs.Details.{node_of, port_of};
+ghost use Rattle.iox2_dynamic.specs.Ports.{CallsCleanup, PutsIf, RecoversPorts, ids_of_node};
 
-use super::details::PortKind;
+use super::answers::PortCleanupAction;
 use super::pattern::ServiceRegistry;
-use super::port_details::PortDetails;
-use iox2_container::container::{Attached, Registry};
-use iox2_ids::identifiers::UniqueNodeId;
+use super::port_details::{PortDetails, PortKind};
+use iox2_container::container::{Attached, Registry, ReleaseMode};
+use iox2_ids::identifiers::{UniqueNodeId, UniquePortId};
 use iox2_texts::bounded::CallbackProgression;
 use std::alloc::{AllocError, Global};
 
@@ -85,4 +88,35 @@ pub(super) fn append_details_of<T: PortKind>(
         CallbackProgression::Continue
     };
     ports.for_each(&mut put);
+}
+
+/// Calls the callback for each port of the node, and returns whether one is left.
+pub(super) fn recover_ports<T: PortKind, F: FnMut(UniquePortId) -> PortCleanupAction>(
+    ports: &mut ServiceRegistry<T>,
+    dead: &UniqueNodeId,
+    f: &mut F,
+) -> bool
+    requires { CanBeCalled F.pre F.step f.old
+        (ids_of_node dead.now (container_as T.details ports.old)) }
+    ensures recovered { RecoversPorts F.step dead.now
+        (container_as T.details ports.old) f.old (container_as T.details ports.new) f.new }
+    ensures left { result ≡
+        nat_lt 0 (entries_of node_of dead.now (registry_as T.details ports.new.registry)) }
+{
+    let mut left = false;
+    let mut goes = |details: &T| -> bool
+        requires { F.pre f.now (port_of (T.details details.now)) }
+        ensures called { CallsCleanup F.step f.entry.now
+            (port_of (T.details details.now)) result f.exit.now }
+        ensures noted { left.exit ≡ (left.entry || not result) }
+        ensures same { f.exit.ghost_name ≡ f.entry.ghost_name }
+    {
+        let goes = f((*details).into_details().port_id()) == PortCleanupAction::RemovePort;
+        if !goes {
+            left = true;
+        }
+        goes
+    };
+    ports.recover(dead, &mut goes, ReleaseMode::Default);
+    left
 }
