@@ -1,13 +1,13 @@
 //! Counts of the lines that were read.
 
 use history_logs::logs::{Counts, Report, check_streams};
-use service_descriptions_tests::failing_streams::{Calls, Sink, Source};
 use std::alloc::{AllocError, Global};
 use std::cell::Cell;
 use std::io;
 use std::io::{ErrorKind, Write};
 use std::process::Abort;
 use std::time::{Clock, Duration};
+use test_support::failing_streams::{Calls, Sink, Streams};
 
 /// A clock that is so many milliseconds later each time that it is looked at.
 #[derive(Drop)]
@@ -44,15 +44,6 @@ impl Write for Terminal<'_> {
     }
 }
 
-/// A writer whose call of this number fails.
-fn sink(alloc: Global, failing: Option<u64>) -> Sink {
-    Sink {
-        bytes: Vec::new(alloc),
-        piece: 20,
-        calls: Calls::failing_at(failing, ErrorKind::Other),
-    }
-}
-
 /// A log of 12,288 lines.
 fn long_log(alloc: Global) -> Result<Vec<u8>, AllocError> {
     let mut log = Vec::from_slice(alloc, b"service event 7 1 0 0\n")?;
@@ -64,14 +55,8 @@ fn long_log(alloc: Global) -> Result<Vec<u8>, AllocError> {
 
 /// What is shown of how far a log is read, by a clock of this step.
 fn shown(alloc: Global, log: &[u8], step: u64, is_terminal: bool, failing: Option<u64>) -> Sink {
-    let mut input = Source {
-        text: log,
-        piece: 4096,
-        greatest: 0,
-        calls: Calls::failing_at(None, ErrorKind::Other),
-    };
-    let (mut output, mut errors) = (sink(alloc, None), sink(alloc, None));
-    let mut terminal = sink(alloc, failing);
+    let mut streams = Streams::steady(alloc, log, [4096, 20]);
+    let mut terminal = Sink::new(alloc, 20, Calls::failing_at(failing, ErrorKind::Other));
     let clock = Ticks {
         now: Cell::new(0),
         step,
@@ -82,9 +67,9 @@ fn shown(alloc: Global, log: &[u8], step: u64, is_terminal: bool, failing: Optio
     let mut counts = Counts::new(alloc, clock, out, is_terminal);
     let _status = check_streams(
         alloc,
-        &mut input,
-        &mut output,
-        &mut errors,
+        &mut streams.input,
+        &mut streams.output,
+        &mut streams.errors,
         &mut counts,
         Report::Verdict,
     );

@@ -2,10 +2,10 @@
 
 use super::rows::{Said, verdict_on};
 use history_logs::logs::Expected;
-use service_descriptions_tests::worked::ROWS;
 use std::alloc::Global;
 use std::process::Abort;
 use std::test::Fail;
+use test_support::scripts::ROWS;
 
 /// Replies, of which no run of a worked script gives one in place of another.
 static REPLIES: [&str; 9] = [

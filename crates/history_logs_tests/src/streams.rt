@@ -1,53 +1,9 @@
 //! Logs that come from streams.
 
 use history_logs::logs::{NoProgress, Report, check_streams};
-use service_descriptions_tests::failing_streams::{Calls, Sink, Source};
-use std::alloc::Global;
 use std::io::ErrorKind;
 use std::process::Abort;
-
-/// The status of the program, and what it wrote.
-#[derive(Drop)]
-struct Ended {
-    status: u8,
-    output: Vec<u8>,
-    errors: Vec<u8>,
-}
-
-/// A writer whose call of this number fails.
-fn sink(alloc: Global, failing: Option<u64>) -> Sink {
-    Sink {
-        bytes: Vec::new(alloc),
-        piece: 20,
-        calls: Calls::failing_at(failing, ErrorKind::Other),
-    }
-}
-
-/// The program on a log, where a call of the input, of the output and of the errors fails.
-fn judge(alloc: Global, log: &str, failing: [Option<u64>; 3]) -> Ended {
-    let [of_input, of_output, of_errors] = failing;
-    let mut input = Source {
-        text: log.as_bytes(),
-        piece: 40,
-        greatest: 0,
-        calls: Calls::failing_at(of_input, ErrorKind::Other),
-    };
-    let mut output = sink(alloc, of_output);
-    let mut errors = sink(alloc, of_errors);
-    let status = check_streams(
-        alloc,
-        &mut input,
-        &mut output,
-        &mut errors,
-        &mut NoProgress,
-        Report::Verdict,
-    );
-    Ended {
-        status,
-        output: output.bytes,
-        errors: errors.bytes,
-    }
-}
+use test_support::failing_streams::Streams;
 
 /// On a log, with these failures, the program ends with this status, output and errors.
 fn ends(
@@ -56,13 +12,22 @@ fn ends(
     failing: [Option<u64>; 3],
     (status, output, errors): (u8, &str, &str),
 ) {
-    let ended = judge(rt.alloc(), log, failing);
+    let (alloc, pieces) = (rt.alloc(), [40, 20]);
+    let mut streams = Streams::failing_at(alloc, log.as_bytes(), pieces, failing, ErrorKind::Other);
+    let ended = check_streams(
+        alloc,
+        &mut streams.input,
+        &mut streams.output,
+        &mut streams.errors,
+        &mut NoProgress,
+        Report::Verdict,
+    );
     assert_eq!(rt;
         (
             log,
-            ended.status,
-            ended.output.as_slice(),
-            ended.errors.as_slice()
+            ended,
+            streams.output.bytes.as_slice(),
+            streams.errors.bytes.as_slice()
         ),
         (log, status, output.as_bytes(), errors.as_bytes())
     );

@@ -2,7 +2,7 @@ use Rattle.std.proofs.Common.{rules, ◌≡◌, ◌+◌, ◌<◌, ◌^◌, lengt
 use Rattle.std.proofs.lemmas.List.{length-map}
 use Rattle.iox2_container.specs.Steps.{listed}
 use Rattle.iox2_container.proofs.Callable.{CanVisit-counting}
-use Rattle.service_examples_tests.proofs.counting.count_handles.Goals as goal
+use Rattle.services_tests.proofs.examples.counting.count_handles.Goals as goal
 
 pub list_node_ids-requires : goal.list_node_ids-requires
 list_node_ids-requires c =

@@ -1,11 +1,11 @@
 //! One line on a service that a caller keeps.
 
 use super::serving::{new_service, write_replies};
-use super::worked::ROWS;
 use service_descriptions::replay::{ServiceState, read_line, replay};
 use std::alloc::{AllocError, Global};
 use std::process::Abort;
 use std::test::Fail;
+use test_support::scripts::ROWS;
 
 /// Appends the reply line to the line, or `?` where it spells no command.
 fn serve_line(

@@ -107,6 +107,12 @@ pub(super) fn subscriber(rt: &impl Abort, counter: u32, node_counter: u32) -> Po
     })
 }
 
+/// Attaches a port for which there is room.
+pub(super) fn attach(rt: &impl Abort, service: &mut DynamicConfig, port: PortDetails) {
+    assert!(rt; service.has_role(port.role()));
+    assert!(rt; service.attach(port).is_ok());
+}
+
 /// The counter of an id.
 pub(super) fn counter(id: u128) -> u128 {
     id % (1 << 32)

@@ -1,19 +1,13 @@
 //! Counts of who is attached.
 use super::services::*;
 use iox2_container::container::Role;
-use iox2_dynamic::dynamic_config::{DynamicConfig, PortDetails};
+use iox2_dynamic::dynamic_config::DynamicConfig;
 use iox2_ids::identifiers::UniqueNodeId;
 use iox2_texts::bounded::CallbackProgression;
 use service_examples::census::{Census, PortCount, take_census};
 use std::alloc::Global;
 use std::process::Abort;
 use std::test::Fail;
-
-/// Attaches a port.
-fn attach(rt: &impl Abort, service: &mut DynamicConfig, port: PortDetails) {
-    assert!(rt; service.has_role(port.role()));
-    assert!(rt; service.attach(port).is_ok());
-}
 
 /// Node 1, which is registered twice, with a publisher
 /// and a subscriber, and node 2 with a publisher.
@@ -49,6 +43,7 @@ fn a_census_counts_nodes_and_ports(rt: HostRuntime) -> Result<(), Fail> {
 }
 
 /// How many handles of nodes there are, counted one by one by a closure that states nothing.
+#[tactic(auto, using(iox2_dynamic::proofs::Callbacks::callbacks))]
 fn count_handles(service: &DynamicConfig) -> usize {
     let _bound = service.number_of_nodes();
     let mut count = 0usize;

@@ -2,12 +2,12 @@
 
 use super::deaths;
 use super::serving::{new_service, serve, spell};
-use super::worked::DIED_TWICE;
 use service_descriptions::container::Role;
 use service_descriptions::identifiers::UniqueNodeId;
 use service_descriptions::replay::{Command, Reply, ServiceState, replay};
 use std::alloc::{AllocError, Global};
 use std::test::Fail;
+use test_support::scripts::DIED_TWICE;
 
 /// Appends the reply lines of the commands that these lines spell, given in one call.
 fn serve_lines(

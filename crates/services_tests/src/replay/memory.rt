@@ -2,9 +2,8 @@
 //! is refused (`bench/refuse_memory` does that), they give a beginning of these, and the rest when
 //! they are called again.
 
+use super::deaths;
 use super::serving::write_replies;
-use super::worked::{DIED_TWICE, SKIPPED};
-use super::{deaths, stored_run};
 use service_descriptions::dynamic_config::{MessagingPatternSettings, publish_subscribe};
 use service_descriptions::identifiers::UniqueNodeId;
 use service_descriptions::replay::{
@@ -16,6 +15,7 @@ use std::env::Env;
 use std::process::Abort;
 use std::test::Fail;
 use test_support::memory::may_be_refused;
+use test_support::scripts::{DIED_TWICE, SKIPPED, STORED};
 
 const SETTINGS: MessagingPatternSettings = MessagingPatternSettings::PublishSubscribe(
     publish_subscribe::DynamicConfigSettings {
@@ -138,7 +138,7 @@ fn gives_whole_lines(rt: &(impl Abort + AllocGlobal + Env), script: &str, lines:
 
 #[test]
 fn the_stored_run_gives_whole_lines(rt: HostRuntime) {
-    gives_whole_lines(&rt, stored_run::SCRIPT, stored_run::LINES);
+    gives_whole_lines(&rt, STORED.0, STORED.1);
 }
 
 #[test]

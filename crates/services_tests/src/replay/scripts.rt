@@ -1,11 +1,11 @@
 //! Worked scripts, and the bad lines of others.
 
-use super::worked::{ROWS, SKIPPED};
 use service_descriptions::replay::{ScriptError, run_script};
 use std::alloc::{AllocError, Global};
 use std::error::Error;
 use std::process::Abort;
 use std::test::Fail;
+use test_support::scripts::{ROWS, SKIPPED};
 
 /// Runs a script, which is to give these lines, and to be bad at a line or at none.
 fn gives(rt: &(impl Abort + AllocGlobal), script: &str, lines: &str, bad: Option<usize>) {

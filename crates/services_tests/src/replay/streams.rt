@@ -1,75 +1,24 @@
 //! The program on streams of a test's own, which fail at a call that the test names.
 
-use super::failing_streams::{Calls, Sink, Source};
-use super::worked::{ROWS, SKIPPED};
 use service_descriptions::replay::run_streams;
 use std::alloc::Global;
 use std::io::ErrorKind;
 use std::process::Abort;
 use std::test::Fail;
+use test_support::failing_streams::Streams;
+use test_support::scripts::{ROWS, SKIPPED};
 
-/// How the input, the output and the errors behave.
-#[derive(Clone, Copy)]
-struct Streams {
-    /// How many bytes the input gives at a call, and the writers take, at most.
-    pieces: [usize; 2],
-    /// The call of each that fails.
-    failing: [Option<u64>; 3],
-    kind: ErrorKind,
-}
-
-impl Streams {
-    /// None of them fails.
-    fn steady(pieces: [usize; 2]) -> Self {
-        Streams {
-            pieces,
-            failing: [None; 3],
-            kind: ErrorKind::Other,
-        }
-    }
-}
-
+/// How many bytes the input gives at a call, and the writers take, at most.
 const PIECES: [usize; 2] = [40, 20];
 
-/// The status of a run, how many calls each stream had, and what each gave or got.
-#[derive(Drop)]
-struct Ended {
-    status: u8,
-    made: [u64; 3],
-    greatest: usize,
-    output: Vec<u8>,
-    errors: Vec<u8>,
-}
-
-fn run(alloc: Global, script: &[u8], streams: Streams) -> Ended {
-    let [read, write] = streams.pieces;
-    let [of_input, of_output, of_errors] = streams
-        .failing
-        .map(|call| Calls::failing_at(call, streams.kind));
-    let mut input = Source {
-        text: script,
-        piece: read,
-        greatest: 0,
-        calls: of_input,
-    };
-    let mut output = Sink {
-        bytes: Vec::new(alloc),
-        piece: write,
-        calls: of_output,
-    };
-    let mut errors = Sink {
-        bytes: Vec::new(alloc),
-        piece: write,
-        calls: of_errors,
-    };
-    let status = run_streams(alloc, &mut input, &mut output, &mut errors);
-    Ended {
-        status,
-        made: [input.calls.made, output.calls.made, errors.calls.made],
-        greatest: input.greatest,
-        output: output.bytes,
-        errors: errors.bytes,
-    }
+/// The status of a run.
+fn run(alloc: Global, streams: &mut Streams) -> u8 {
+    run_streams(
+        alloc,
+        &mut streams.input,
+        &mut streams.output,
+        &mut streams.errors,
+    )
 }
 
 /// A run on streams that do not fail gives this output and
@@ -80,14 +29,15 @@ fn gives(
     pieces: [usize; 2],
     (status, lines, error): (u8, &str, &str),
 ) {
-    let ended = run(rt.alloc(), script.as_bytes(), Streams::steady(pieces));
+    let mut streams = Streams::steady(rt.alloc(), script.as_bytes(), pieces);
+    let ended = run(rt.alloc(), &mut streams);
     assert_eq!(rt;
         (
             script,
-            ended.status,
-            ended.greatest,
-            ended.output.as_slice(),
-            ended.errors.as_slice()
+            ended,
+            streams.input.greatest,
+            streams.output.bytes.as_slice(),
+            streams.errors.bytes.as_slice()
         ),
         (script, status, 4096, lines.as_bytes(), error.as_bytes())
     );
@@ -161,12 +111,14 @@ fn long_script(alloc: Global) -> Result<(String, String), Fail> {
 #[test]
 fn a_long_script(rt: HostRuntime) -> Result<(), Fail> {
     let (script, lines) = long_script(rt.alloc())?;
-    let ended = run(rt.alloc(), script.as_bytes(), Streams::steady(PIECES));
+    let mut streams = Streams::steady(rt.alloc(), script.as_bytes(), PIECES);
+    let ended = run(rt.alloc(), &mut streams);
     // The last read finds the end, and both writers are flushed.
     let reads = script.len().div_ceil(40) as u64 + 1;
     let writes = lines.len().div_ceil(20) as u64 + 1;
-    assert_eq!(rt; (ended.status, ended.made), (0, [reads, writes, 1]));
-    assert!(rt; ended.output.as_slice() == lines.as_bytes() && ended.errors.is_empty());
+    assert_eq!(rt; (ended, streams.made()), (0, [reads, writes, 1]));
+    assert!(rt; streams.output.bytes.as_slice() == lines.as_bytes());
+    assert!(rt; streams.errors.bytes.is_empty());
     Ok(())
 }
 
@@ -174,14 +126,10 @@ fn a_long_script(rt: HostRuntime) -> Result<(), Fail> {
 /// streams have had this many calls.
 fn fails(rt: &(impl Abort + AllocGlobal), script: &str, failing: [Option<u64>; 3], made: [u64; 3]) {
     for kind in [ErrorKind::Other, ErrorKind::Interrupted] {
-        let streams = Streams {
-            pieces: PIECES,
-            failing,
-            kind,
-        };
-        let ended = run(rt.alloc(), script.as_bytes(), streams);
-        let calls = ended.made;
-        assert_eq!(rt; (ended.status, calls), (3, made));
+        let text = script.as_bytes();
+        let mut streams = Streams::failing_at(rt.alloc(), text, PIECES, failing, kind);
+        let ended = run(rt.alloc(), &mut streams);
+        assert_eq!(rt; (ended, streams.made()), (3, made));
     }
 }
 
@@ -220,8 +168,8 @@ fn a_write_or_flush_of_a_bad_script_that_fails(rt: HostRuntime) {
 #[test]
 fn a_writer_that_takes_nothing(rt: HostRuntime) {
     for (script, made) in [(SKIPPED.0, [7, 1, 0]), ("", [1, 0, 1])] {
-        let ended = run(rt.alloc(), script.as_bytes(), Streams::steady([40, 0]));
-        let calls = ended.made;
-        assert_eq!(rt; (ended.status, calls), (3, made));
+        let mut streams = Streams::steady(rt.alloc(), script.as_bytes(), [40, 0]);
+        let ended = run(rt.alloc(), &mut streams);
+        assert_eq!(rt; (ended, streams.made()), (3, made));
     }
 }

@@ -43,13 +43,6 @@ fn publish(rt: &impl Abort, service: &mut DynamicConfig, counter: u32, node: u32
     assert!(rt; made.is_ok());
 }
 
-/// Attaches a subscriber of the node.
-fn subscribe(rt: &impl Abort, service: &mut DynamicConfig, counter: u32, node: u32) {
-    let details = subscriber(rt, counter, node);
-    assert!(rt; service.has_role(details.role()));
-    assert!(rt; service.attach(details).is_ok());
-}
-
 /// Whether these are attached: the counter of each node, and for a port that of the port behind it.
 fn are_attached(
     alloc: Global,
@@ -63,7 +56,7 @@ fn are_attached(
 fn come(rt: &impl Abort, service: &mut DynamicConfig) {
     open(rt, service, 2);
     open(rt, service, 1);
-    subscribe(rt, service, 31, 2);
+    attach(rt, service, subscriber(rt, 31, 2));
     publish(rt, service, 21, 2);
     publish(rt, service, 22, 1);
 }

@@ -1,6 +1,10 @@
 //! Scripts that are bad at no line, and their reply lines.
 
-use super::stored_run::{LINES, SCRIPT};
+/// The program's stored run.
+pub const STORED: (&str, &str) = (
+    "service event 7 1 2 2\nregister 1.0.0.1\nregister 2.0.0.2\nderegister 0\nderegister 0\nregister 2.0.0.2\n",
+    "handle 0 0\nfull\nno-owners\nnot-owned\nlocked\n",
+);
 
 /// Ports of two nodes of one process and one counter, one
 /// of which dies; one of its ports stays, and so does it.
@@ -16,7 +20,7 @@ pub const DIED_TWICE: &str =
 
 /// The scripts with their reply lines.
 pub static ROWS: [(&str, &str); 16] = [
-    (SCRIPT, LINES),
+    STORED,
     SKIPPED,
     // A place is taken again under another ticket.
     (
