@@ -1,9 +1,8 @@
 //! Logs of many services, and of the calls of many callers.
 
-use super::rows::{Row, Said, verdict_on};
+use super::rows::{Row, Said, are_judged};
 use history_logs::logs::Expected;
 use std::alloc::{AllocError, Global};
-use std::process::Abort;
 use std::test::Fail;
 
 /// So many services, and so many callers.
@@ -30,17 +29,6 @@ fn callers(alloc: Global) -> Result<String, AllocError> {
     Ok(log)
 }
 
-/// The log is judged so, with these lines behind it.
-fn goes_on(rt: &(impl Abort + AllocGlobal), log: &str, rows: &[Row]) -> Result<(), Fail> {
-    for (last, wanted) in rows {
-        let mut whole = String::from_str(rt.alloc(), log)?;
-        whole.push_str(last)?;
-        let said = verdict_on(rt.alloc(), whole.as_bytes())?;
-        assert_eq!(rt; (last, said), (last, *wanted));
-    }
-    Ok(())
-}
-
 static BEHIND_SERVICES: [Row; 6] = [
     ("2999: nodes\n= list\n", Said::Conforms(3001, 3000)),
     (
@@ -58,7 +46,7 @@ static BEHIND_SERVICES: [Row; 6] = [
 
 #[test]
 fn each_of_many_services_is_judged(rt: HostRuntime) -> Result<(), Fail> {
-    goes_on(&rt, &services(rt.alloc())?, &BEHIND_SERVICES)
+    are_judged(&rt, &services(rt.alloc())?, &BEHIND_SERVICES)
 }
 
 static BEHIND_CALLERS: [Row; 4] = [
@@ -70,5 +58,5 @@ static BEHIND_CALLERS: [Row; 4] = [
 
 #[test]
 fn the_calls_of_many_callers_are_judged(rt: HostRuntime) -> Result<(), Fail> {
-    goes_on(&rt, &callers(rt.alloc())?, &BEHIND_CALLERS)
+    are_judged(&rt, &callers(rt.alloc())?, &BEHIND_CALLERS)
 }
