@@ -4,7 +4,7 @@
 use super::expected::own::OWN;
 use super::expected::pictures::{COLORS, PICTURE};
 use super::expected::{EVENT, PUBLISH_SUBSCRIBE};
-use super::running::arguments;
+use crate::arguments::arguments;
 use service_drawing::describe_streams;
 use std::alloc::{AllocError, Global};
 use std::env::Env;
@@ -13,7 +13,7 @@ use test_support::memory::may_be_refused;
 
 /// The status of a run, and what it writes to its output and its errors, which have room for it.
 fn run(alloc: Global, words: &[&str], input: &str) -> Result<(u8, Vec<u8>, Vec<u8>), AllocError> {
-    let words = arguments(alloc, words)?;
+    let words = arguments(alloc, "iox2-describe", words)?;
     let mut output = Vec::with_capacity(alloc, 16384)?;
     let mut errors = Vec::with_capacity(alloc, 200)?;
     let mut bytes = input.as_bytes();
@@ -47,9 +47,9 @@ fn draws_all_or_nothing(
 
 #[test]
 fn a_text_is_whole_or_none(rt: HostRuntime) {
-    draws_all_or_nothing(&rt, &["iox2-describe"], PUBLISH_SUBSCRIBE);
-    draws_all_or_nothing(&rt, &["iox2-describe"], EVENT);
-    draws_all_or_nothing(&rt, &["iox2-describe"], OWN);
+    draws_all_or_nothing(&rt, &[], PUBLISH_SUBSCRIBE);
+    draws_all_or_nothing(&rt, &[], EVENT);
+    draws_all_or_nothing(&rt, &[], OWN);
 }
 
 #[test]
@@ -57,9 +57,5 @@ fn a_picture_is_whole_or_none(rt: HostRuntime) {
     let Ok(drawing) = format!(in rt.alloc(); "{}{COLORS}{}", PICTURE.begin, PICTURE.end) else {
         return;
     };
-    draws_all_or_nothing(
-        &rt,
-        &["iox2-describe", "svg"],
-        (PICTURE.input, drawing.as_str()),
-    );
+    draws_all_or_nothing(&rt, &["svg"], (PICTURE.input, drawing.as_str()));
 }

@@ -1,25 +1,6 @@
 //! What is reported of a bad line of each form with its prefix, and how the program is used.
 
-use super::running::run;
-use std::alloc::Global;
-use std::process::Abort;
-
-/// Asserts that a run has this status, and writes these texts to its output and its errors.
-fn assert_run(
-    rt: &impl Abort,
-    alloc: Global,
-    words: &[&str],
-    input: &str,
-    expected: (u8, &str, &str),
-) {
-    let (status, output, errors) = run(rt, alloc, words, input);
-    let (code, drawing, report) = expected;
-    assert_eq!(rt;
-        (status, output.as_slice(), errors.as_slice()),
-        (code, drawing.as_bytes(), report.as_bytes()),
-        "{input}"
-    );
-}
+use super::running::assert_run;
 
 /// Descriptions whose last line, one of the lines of two messages, is bad, and what is reported.
 static PREFIXED: [(&str, &str); 10] = [
@@ -68,7 +49,7 @@ static PREFIXED: [(&str, &str); 10] = [
 #[test]
 fn lines_with_a_prefix(rt: HostRuntime) {
     for (input, report) in PREFIXED {
-        assert_run(&rt, rt.alloc(), &["iox2-describe"], input, (1, "", report));
+        assert_run(&rt, rt.alloc(), &[], input, (1, "", report));
     }
 }
 
@@ -92,12 +73,6 @@ writing failed.
 #[test]
 fn help(rt: HostRuntime) {
     for word in ["-h", "--help"] {
-        assert_run(
-            &rt,
-            rt.alloc(),
-            &["iox2-describe", word],
-            "bad",
-            (0, HELP, ""),
-        );
+        assert_run(&rt, rt.alloc(), &[word], "bad", (0, HELP, ""));
     }
 }

@@ -8,7 +8,7 @@ use std::test::Fail;
 
 /// Asserts that a description is drawn, and that this line stands in the drawing.
 fn assert_line(rt: &impl Abort, alloc: Global, input: &str, line: &str) {
-    let (status, output, errors) = run(rt, alloc, &["iox2-describe"], input);
+    let (status, output, errors) = run(rt, alloc, &[], input);
     let Ok(drawing) = str::from_utf8(output.as_slice()) else {
         panic!(rt; "{input}");
     };
@@ -149,14 +149,12 @@ const ELEMENTS: [usize; 20] = [
 #[test]
 fn sizes(rt: HostRuntime) -> Result<(), Fail> {
     let alloc = rt.alloc();
+    let forms: [&[&str]; 2] = [&[], &["svg"]];
     for elements in ELEMENTS {
         let input = format!(in alloc;
             "publish-subscribe A\nheader 8 8 u64\nuser-header 0 1 ()\npayload dynamic 8 8 f64\nelements {elements}\n"
         )?;
-        for words in [
-            ["iox2-describe"].as_slice(),
-            ["iox2-describe", "svg"].as_slice(),
-        ] {
+        for words in forms {
             let (status, _, errors) = run(&rt, alloc, words, input.as_str());
             assert_eq!(rt; (status, errors.len()), (0, 0), "{elements}");
         }
@@ -166,7 +164,7 @@ fn sizes(rt: HostRuntime) -> Result<(), Fail> {
     for i in 0..16 {
         writeln!(input, "attribute k{i} {value}")?;
     }
-    let (status, output, errors) = run(&rt, alloc, &["iox2-describe"], input.as_str());
+    let (status, output, errors) = run(&rt, alloc, &[], input.as_str());
     assert_eq!(rt; (status, errors.len(), 4096 < output.len()), (0, 0, true));
     Ok(())
 }
@@ -175,7 +173,7 @@ fn sizes(rt: HostRuntime) -> Result<(), Fail> {
 #[test]
 fn told_without_a_description(rt: HostRuntime) {
     let alloc = rt.alloc();
-    let (status, output, errors) = run(&rt, alloc, &["iox2-describe", "--version"], "bad");
+    let (status, output, errors) = run(&rt, alloc, &["--version"], "bad");
     assert_eq!(rt;
         (status, output.as_slice(), errors.len()),
         (0, b"iox2-describe 0.1.0 (iceoryx2 0.9.3)\n".as_slice(), 0)

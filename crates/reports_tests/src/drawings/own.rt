@@ -1,23 +1,19 @@
 //! Descriptions over settings of their own.
 
 use super::expected::own::{FILES, NO_TOML, OWN, REFUSED};
-use super::running::run;
+use super::running::{assert_run, run};
 use std::alloc::Global;
 use std::process::Abort;
 
 /// Settings in front take the place of the defaults, and the description changes them once more.
 #[test]
 fn own_settings_are_drawn(rt: HostRuntime) {
-    let (status, output, errors) = run(&rt, rt.alloc(), &["iox2-describe"], OWN.0);
-    assert_eq!(rt;
-        (status, errors.len(), output.as_slice()),
-        (0, 0, OWN.1.as_bytes())
-    );
+    assert_run(&rt, rt.alloc(), &[], OWN.0, (0, OWN.1, ""));
 }
 
 /// Asserts that an input is drawn with five nodes, and that these warnings are reported.
 fn assert_drawn(rt: &impl Abort, alloc: Global, input: &str, warnings: &str) {
-    let (status, output, errors) = run(rt, alloc, &["iox2-describe"], input);
+    let (status, output, errors) = run(rt, alloc, &[], input);
     let part = b"\n! max_nodes                                    5, by default 36\n";
     let found = output
         .windows(part.len())
@@ -36,29 +32,16 @@ fn own_settings_have_any_form(rt: HostRuntime) {
     }
 }
 
-/// Asserts that an input is refused with this report, and that nothing is drawn.
-fn assert_refused(rt: &impl Abort, alloc: Global, input: &str, report: &str) {
-    let (status, output, errors) = run(rt, alloc, &["iox2-describe"], input);
-    assert_eq!(rt;
-        (status, output.len(), errors.as_slice()),
-        (1, 0, report.as_bytes())
-    );
-}
-
 /// What is wrong with settings in front is reported, and nothing is drawn.
 #[test]
 fn own_settings_are_refused(rt: HostRuntime) {
     for (input, report) in REFUSED {
-        assert_refused(&rt, rt.alloc(), input, report);
+        assert_run(&rt, rt.alloc(), &[], input, (1, "", report));
     }
 }
 
 /// The lines of settings in front are counted from the top of the input.
 #[test]
 fn lines_are_counted_from_the_top(rt: HostRuntime) {
-    let (status, output, errors) = run(&rt, rt.alloc(), &["iox2-describe"], NO_TOML.0);
-    assert_eq!(rt;
-        (status, output.len(), errors.as_slice()),
-        (1, 0, NO_TOML.1.as_bytes())
-    );
+    assert_run(&rt, rt.alloc(), &[], NO_TOML.0, (1, "", NO_TOML.1));
 }

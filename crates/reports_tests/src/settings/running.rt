@@ -2,19 +2,9 @@
 ghost use Rattle.std.specs.Prelude.{ℕ, List, Result, ⊤};
 ghost use Rattle.settings_check.specs.declared.found.FileError.{FileError};
 
+use crate::arguments::arguments;
 use settings_check::{FileError, Files, check_streams};
 use std::alloc::{AllocError, Global};
-use std::env::Args;
-
-/// The arguments, of which the first is the program's name.
-pub(super) fn arguments(alloc: Global, words: &[&str]) -> Result<Args, AllocError> {
-    let mut all = Vec::new(alloc);
-    all.push(String::from_str(alloc, "iox2-check")?)?;
-    for word in words {
-        all.push(String::from_str(alloc, word)?)?;
-    }
-    Ok(all.into_iter())
-}
 
 /// Files with these names and these bytes. All other names are those of no file, but for these:
 /// `closed` may not be read, `folder` is a directory, and `broken` cannot be read.
@@ -51,7 +41,7 @@ pub(super) fn run(
     files: Known<'_>,
     input: &[u8],
 ) -> Result<(u8, Vec<u8>, Vec<u8>), AllocError> {
-    let words = arguments(alloc, words)?;
+    let words = arguments(alloc, "iox2-check", words)?;
     let mut output = Vec::new(alloc);
     let mut errors = Vec::new(alloc);
     let mut bytes = input;

@@ -1,6 +1,6 @@
 //! Refused arguments and lines.
 
-use super::running::run;
+use super::running::assert_run;
 use std::alloc::{AllocError, Global};
 use std::process::Abort;
 use std::test::Fail;
@@ -36,16 +36,6 @@ const REQUIRE: &str =
 
 const END: &str = "the end, or a line that may follow the one before it";
 
-/// Asserts that a run is refused with this error, and draws nothing.
-fn assert_refused(rt: &impl Abort, alloc: Global, words: &[&str], input: &str, error: &str) {
-    let (status, output, errors) = run(rt, alloc, words, input);
-    assert_eq!(rt;
-        (status, output.len(), errors.as_slice()),
-        (1, 0, error.as_bytes()),
-        "{input}"
-    );
-}
-
 /// Asserts that a description is refused at the line of this number, where this was expected.
 fn assert_bad_line(
     rt: &impl Abort,
@@ -55,7 +45,7 @@ fn assert_bad_line(
     expected: &str,
 ) -> Result<(), AllocError> {
     let error = format!(in alloc; "bad line {line}: expected {expected}\n")?;
-    assert_refused(rt, alloc, &["iox2-describe"], input, error.as_str());
+    assert_run(rt, alloc, &[], input, (1, "", error.as_str()));
     Ok(())
 }
 
@@ -139,18 +129,18 @@ fn bad_arguments(rt: HostRuntime) {
          read from the standard input\n";
     let alloc = rt.alloc();
     let words: [&[&str]; 9] = [
-        &["iox2-describe", "default"],
-        &["iox2-describe", "config"],
-        &["iox2-describe", "config", "default"],
-        &["iox2-describe", "SVG"],
-        &["iox2-describe", "svg", "svg"],
-        &["iox2-describe", "--help", "svg"],
-        &["iox2-describe", "svg", "--version"],
-        &["iox2-describe", "-v"],
-        &["iox2-describe", ""],
+        &["default"],
+        &["config"],
+        &["config", "default"],
+        &["SVG"],
+        &["svg", "svg"],
+        &["--help", "svg"],
+        &["svg", "--version"],
+        &["-v"],
+        &[""],
     ];
     for words in words {
-        assert_refused(&rt, alloc, words, "event A\n", error);
+        assert_run(&rt, alloc, words, "event A\n", (1, "", error));
     }
 }
 
@@ -218,7 +208,7 @@ const CAUSES: [(&str, &str); 14] = [
 fn causes(rt: HostRuntime) -> Result<(), Fail> {
     for (input, cause) in CAUSES {
         let error = format!(in rt.alloc(); "bad line {cause}\n")?;
-        assert_refused(&rt, rt.alloc(), &["iox2-describe"], input, error.as_str());
+        assert_run(&rt, rt.alloc(), &[], input, (1, "", error.as_str()));
     }
     Ok(())
 }

@@ -35,7 +35,7 @@ elements 600
 /// The words of a command line, a description, and with what its drawing ends.
 pub(crate) static ENDS: [(&[&str], &str, &str); 6] = [
     (
-        &["iox2-describe"],
+        &[],
         GAPS,
         "
 message: 20 bytes, alignment 4
@@ -63,7 +63,7 @@ required by an opener
 ",
     ),
     (
-        &["iox2-describe"],
+        &[],
         SPARE,
         "
 message: 1024 bytes, alignment 1024
@@ -91,7 +91,7 @@ required by an opener
 ",
     ),
     (
-        &["iox2-describe", "svg"],
+        &["svg"],
         GAPS,
         "
 <g transform=\"translate(0 720)\">
@@ -134,7 +134,7 @@ required by an opener
 ",
     ),
     (
-        &["iox2-describe", "svg"],
+        &["svg"],
         LATE,
         "
 <g transform=\"translate(0 720)\">
@@ -163,7 +163,7 @@ required by an opener
 ",
     ),
     (
-        &["iox2-describe", "svg"],
+        &["svg"],
         CROWDED,
         "
 <g transform=\"translate(0 720)\">
@@ -189,7 +189,7 @@ required by an opener
 ",
     ),
     (
-        &["iox2-describe", "svg"],
+        &["svg"],
         SPARE,
         "
 <g transform=\"translate(0 720)\">
