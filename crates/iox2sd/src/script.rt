@@ -1,6 +1,6 @@
 //! Whole scripts.
 ghost use Rattle.std.specs.Prelude.{◌≡◌};
-ghost use Rattle.iox2sd_lines.specs.Scripts.{end_status, bad_line, end_length, Answers};
+ghost use Rattle.iox2sd.specs.Scripts.{end_status, bad_line, end_length, Answers};
 
 use iox2sd_common::answers::put;
 use iox2sd_common::status::Status;

@@ -10,7 +10,7 @@ use Rattle.iox2sd_common.specs.Answers.{Writes}
 use Rattle.iox2sd_common.specs.Status.{code}
 use Rattle.iox2sd_common.specs.declared.status.Status.{Status}
 use Rattle.iox2sd_common.specs.declared.status.Status.TheVariants as status
-use Rattle.iox2sd_lines.specs.declared.conform.ConformAnswer.{ConformAnswer}
+use Rattle.iox2sd.specs.declared.conform.ConformAnswer.{ConformAnswer}
 
 -- the status of a line that is not what is expected
 abbrev pub expected_status : Expected → Status

@@ -5,7 +5,7 @@ use Rattle.service_descriptions.specs.declared.replay.lines.script.ScriptError.{
 use Rattle.service_descriptions.specs.declared.replay.lines.script.ScriptError.TheVariants as error
 use Rattle.iox2sd_common.specs.Answers.{Writes}
 use Rattle.iox2sd_common.specs.Status.{code}
-use Rattle.iox2sd_lines.specs.declared.script.ScriptAnswer.{ScriptAnswer}
+use Rattle.iox2sd.specs.declared.script.ScriptAnswer.{ScriptAnswer}
 use Rattle.iox2sd_common.specs.declared.status.Status.{Status}
 use Rattle.iox2sd_common.specs.declared.status.Status.TheVariants as status
 

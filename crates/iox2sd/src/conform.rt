@@ -1,7 +1,7 @@
 //! Whole logs.
 ghost use Rattle.std.specs.Prelude.{◌≡◌};
-ghost use Rattle.iox2sd_lines.specs.Verdicts.{Answers, conforming_calls, reported_line};
-ghost use Rattle.iox2sd_lines.specs.Verdicts.{expected_status, verdict_status};
+ghost use Rattle.iox2sd.specs.Verdicts.{Answers, conforming_calls, reported_line};
+ghost use Rattle.iox2sd.specs.Verdicts.{expected_status, verdict_status};
 
 use history_logs::logs::{Expected, Verdict, report_log};
 use iox2sd_common::answers::put;
