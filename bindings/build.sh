@@ -34,7 +34,7 @@ build_over_proved() {
 
 # One object of each crate and its heap.
 objects=()
-for crate in iox2sd iox2sd_values iox2sd_lines iox2sd_config; do
+for crate in iox2sd iox2sd_values iox2sd_config; do
     if [ "${1:-}" = --after-gate ]; then
         build_over_proved "$crate"
     else

@@ -1,7 +1,8 @@
-//! Pictures where memory is refused. With ample memory one is drawn; where one request is refused
-//! (`bench/refuse_memory` does that), it is drawn when that is tried again.
+//! Logs where memory is refused. With ample memory one is judged and drawn; where one request is
+//! refused (`bench/refuse_memory` does that), it is when that is tried again.
 
 use history_drawing::draw_log;
+use history_logs::logs::report_log;
 use std::process::Abort;
 use std::test::Fail;
 use test_support::memory::may_be_refused;
@@ -33,5 +34,24 @@ fn a_log_is_drawn_whole_or_not_at_all(rt: HostRuntime) -> Result<(), Fail> {
         );
         assert!(rt; drawing.picture.as_str().ends_with("</text>\n</svg>\n"));
     }
+    Ok(())
+}
+
+/// A log in which a caller reads the old state after the new one, of a service that began anew.
+const LOG: &str =
+    "service event 7 3 2 2\nnodes\n= list\nstate nodes 0\nregister 1.0.0.1\n= handle 0 0\nregister 2.0.0.2\n= handle 1 1\nA> register 3.0.0.3\nB> nodes\nB< list 1000000000000000000000001 2000000000000000000000002 3000000000000000000000003\nB> nodes\nB< list 1000000000000000000000001 2000000000000000000000002\nA!\n";
+
+const REPORT: &str =
+    "line 13: no order of the calls explains this reply\nseen: list 1000000000000000000000001 2000000000000000000000002\ncall: B> nodes (line 12)\nwindow: from line 9\nneeded: lines 9 10 12\nmade: lines 9\npossible: list 1000000000000000000000001 2000000000000000000000002 3000000000000000000000003\nnodes: 1000000000000000000000001 2000000000000000000000002 3000000000000000000000003\nports:\n";
+
+#[test]
+fn a_log_is_judged_whole_or_not_at_all(rt: HostRuntime) -> Result<(), Fail> {
+    let first = report_log(rt.alloc(), LOG.as_bytes());
+    assert!(rt; first.is_ok() || may_be_refused(&rt));
+    let (_verdict, text) = match first {
+        Ok(judged) => judged,
+        Err(_) => report_log(rt.alloc(), LOG.as_bytes())?,
+    };
+    assert!(rt; text.as_slice() == REPORT.as_bytes());
     Ok(())
 }

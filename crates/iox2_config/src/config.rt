@@ -16,7 +16,7 @@ use iox2_texts::paths::{FileName, FilePath, Path};
 
 /// All settings: those of the system, and those that services get by default.
 ///
-/// From `crates/iox2_static_tests/src/chunk_counts.rt`:
+/// From `crates/services_tests/src/static_config/chunk_counts.rt`:
 ///
 /// ```
 /// let mut config = publish_subscribe::StaticConfig::new(&Config::default());

@@ -26,7 +26,7 @@ use std::marker::Model;
 
 /// What is fixed of a service, as its creator describes it.
 ///
-/// From `crates/service_examples_tests/src/services.rt`:
+/// From `crates/services_tests/src/examples/services.rt`:
 ///
 /// ```
 /// let mut service = StaticConfig::new_publish_subscribe::<Sha1Hasher>(

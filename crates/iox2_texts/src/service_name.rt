@@ -58,7 +58,7 @@ impl Error for ServiceNameError {}
 
 /// The name of a service: 1 to 255 bytes, each from 1 to 127.
 ///
-/// From `crates/iox2_config_tests/src/hash.rt`:
+/// From `crates/values_tests/src/config/hash.rt`:
 ///
 /// ```
 /// let name = ServiceName::new("My/Funk/ServiceName").expect(&rt, "a name");

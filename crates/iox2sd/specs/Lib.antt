@@ -8,6 +8,8 @@ pub mod Changes
 pub mod DeadNodes
 pub mod Queries
 pub mod Listings
+pub mod Scripts
+pub mod Verdicts
 -- Inner facts: the names that these files share, and what a slot owns.
 pub mod Prelude
 pub mod Slots

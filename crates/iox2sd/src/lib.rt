@@ -1,14 +1,17 @@
 //! The layer for C: its calls under C's calling convention, with plain values, in one static
 //! library without global state.
 //!
-//! `include/iox2sd_raw.h` declares the exports for C and C++, and `include/iox2sd.h` the functions
-//! that call them, with what a caller must ensure.
+//! `include/iox2sd_raw.h` declares the exports for C and C++, and `include/iox2sd.h`,
+//! `include/iox2sd_script.h` and `include/iox2sd_conform.h` the functions that call them, with what
+//! a caller must ensure.
 #![tactic(auto)]
 
 ghost use Rattle.std.specs.Prelude.{◌≡◌};
 ghost use Rattle.iox2sd.specs.About.{the_abi, ReportsStatus};
 
+pub mod conform;
 pub mod id;
+pub mod script;
 pub mod service;
 pub mod service_numbers;
 pub mod values;

@@ -1,7 +1,10 @@
-//! Worked examples of ids and texts. They are tests of what no contract says, with values from
-//! outside: worked rows, printed texts, and each public call once.
+//! Worked examples of ids, texts and the configuration. They are tests of what no contract says,
+//! with values from outside: worked rows, vectors of public standards, printed texts, and each
+//! public call once.
 #![tactic(auto)]
 
+#[cfg(test)]
+mod config;
 #[cfg(test)]
 mod ids;
 #[cfg(test)]

@@ -98,7 +98,7 @@ pub enum HashError {
 /// What it means, and which inputs it may refuse, depend on the input alone: two hashers of one
 /// type that were made of one input return the same text, or an error.
 ///
-/// From `crates/iox2_config_tests/src/hash.rt`:
+/// From `crates/values_tests/src/config/hash.rt`:
 ///
 /// ```
 /// impl Hash for Dot {

@@ -24,7 +24,7 @@ pub enum ServiceHashError {
 /// The hash text of a service, under which its files are found: the name of a file, of at most 64
 /// bytes. Comparisons and hashes go by its bytes.
 ///
-/// From `crates/iox2_config_tests/src/hash.rt`:
+/// From `crates/values_tests/src/config/hash.rt`:
 ///
 /// ```
 /// let event = ServiceHash::new::<Sha1Hasher>(&name, PatternKind::Event).expect(&rt, "a hash");

@@ -6,7 +6,7 @@ use super::zero_copy_send::ZeroCopySend;
 
 /// What a service knows of the parts of its messages, which lie one after another.
 ///
-/// From `crates/service_examples_tests/src/services.rt`:
+/// From `crates/services_tests/src/examples/services.rt`:
 ///
 /// ```
 /// MessageTypeDetails {

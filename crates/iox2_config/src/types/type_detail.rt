@@ -49,7 +49,7 @@ pub enum TypeDetailError {
 /// The alignment is a power of two. The default details, which mean that none were given, have the
 /// alignment 0, the size 0 and an empty name.
 ///
-/// From `crates/iox2_config_tests/src/types.rt`:
+/// From `crates/values_tests/src/config/types.rt`:
 ///
 /// ```
 /// let detail = TypeDetail::new::<T>(TypeVariant::FixedSize).expect(rt, "the name is legal");

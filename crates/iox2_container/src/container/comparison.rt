@@ -202,7 +202,7 @@ fn is_same_kind<T: Copy + Eq>(ones: &[RegistryReply<T>], others: &[RegistryReply
 /// lists before either registry changes, so after an error both have made the same number of calls,
 /// fewer than all, and have as many replies.
 ///
-/// From `crates/iox2_container_tests/src/comparison.rt`:
+/// From `crates/registries_tests/src/containers/comparison.rt`:
 ///
 /// ```
 /// let mut scan = Container::new(alloc, 1, Role::Node, capacity, tickets)?;

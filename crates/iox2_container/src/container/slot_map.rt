@@ -50,7 +50,7 @@ impl Touches {
 /// finds by reading the slots from the first on. Adding touches at most
 /// one slot more often than there are slots, removing at most two slots.
 ///
-/// From `crates/iox2_container_tests/src/comparison.rt`:
+/// From `crates/registries_tests/src/containers/comparison.rt`:
 ///
 /// ```
 /// let mut scan = Container::new(alloc, 1, Role::Node, capacity, tickets)?;
@@ -60,7 +60,7 @@ pub type Container<T> = SlotMap<T, LowestFree>;
 /// A registry that puts each entry into the slot that was freed last, or else into the lowest that
 /// was never used. Adding and removing touch at most two slots.
 ///
-/// From `crates/iox2_container_tests/src/comparison.rt`:
+/// From `crates/registries_tests/src/containers/comparison.rt`:
 ///
 /// ```
 /// let mut list = ListContainer::new(alloc, 2, Role::Reader, capacity, tickets)?;

@@ -37,7 +37,7 @@ use std::marker::Model;
 /// calls on a service that was made only `nodes`, `ports` and `ports_of` take memory, for their
 /// lists.
 ///
-/// From `crates/service_examples_tests/src/services.rt`:
+/// From `crates/services_tests/src/examples/services.rt`:
 ///
 /// ```
 /// let settings = MessagingPatternSettings::new(PatternKind::PublishSubscribe, 2, 2);

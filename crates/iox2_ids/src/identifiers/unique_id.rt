@@ -145,7 +145,7 @@ enum NodeKind {}
 
 /// The id of a node. Its process or its counter is not 0.
 ///
-/// From `crates/service_examples_tests/src/services.rt`:
+/// From `crates/services_tests/src/examples/services.rt`:
 ///
 /// ```
 /// UniqueNodeId::new(1, 0, 0, counter).expect(rt, "process 1 has nodes")

@@ -13,7 +13,7 @@ pub const MAX_ATTRIBUTE_VALUE_LENGTH: usize = 256;
 
 /// The key of an attribute: 1 to 64 bytes, each from 1 to 127.
 ///
-/// From `crates/service_examples_tests/src/services.rt`:
+/// From `crates/services_tests/src/examples/services.rt`:
 ///
 /// ```
 /// AttributeKey::try_from("color").expect(rt, "a key"),
@@ -22,7 +22,7 @@ pub type AttributeKey = SemanticString<AttributeContent, MAX_ATTRIBUTE_KEY_LENGT
 
 /// The value of an attribute: 1 to 256 bytes, each from 1 to 127.
 ///
-/// From `crates/service_examples_tests/src/services.rt`:
+/// From `crates/services_tests/src/examples/services.rt`:
 ///
 /// ```
 /// AttributeValue::try_from(value).expect(rt, "a value"),

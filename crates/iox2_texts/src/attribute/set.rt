@@ -39,7 +39,7 @@ impl Error for AttributeDefinitionError {}
 
 /// Up to 16 pairs in rising order. A pair that was added twice is in it twice.
 ///
-/// From `crates/service_examples_tests/src/services.rt`:
+/// From `crates/services_tests/src/examples/services.rt`:
 ///
 /// ```
 /// let mut attributes = AttributeSet::new();

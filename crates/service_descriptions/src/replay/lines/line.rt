@@ -314,7 +314,7 @@ pub fn command_before(
 /// nanoseconds, counter), and of a node's id process or counter is not 0. So each command has one
 /// text.
 ///
-/// From `crates/service_descriptions_tests/src/line_runs.rt`:
+/// From `crates/services_tests/src/replay/line_runs.rt`:
 ///
 /// ```
 /// let Some(command) = read_line(alloc, line.as_bytes())? else {

@@ -225,7 +225,7 @@ fn append_line(reply: &Reply, out: &mut Vec<u8>) -> Result<(), AllocError>
 /// Appends the line of a reply with its newline. Where
 /// memory is refused, the bytes are left as they were.
 ///
-/// From `crates/service_descriptions_tests/src/serving.rt`:
+/// From `crates/services_tests/src/replay/serving.rt`:
 ///
 /// ```
 /// for reply in replies {

@@ -99,7 +99,7 @@ fn run_lines(
 /// At a bad line the replies to all commands before it have been appended. Where memory is refused,
 /// nothing has been appended, or the whole reply lines of some first commands.
 ///
-/// From `crates/service_descriptions_tests/src/scripts.rt`:
+/// From `crates/services_tests/src/replay/scripts.rt`:
 ///
 /// ```
 /// let mut out = Vec::new(rt.alloc());

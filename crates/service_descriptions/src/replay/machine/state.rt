@@ -17,7 +17,7 @@ use std::marker::Model;
 /// A service, its description or none, and for each earlier command the handle that it returned. No
 /// two of these handles are equal.
 ///
-/// From `crates/service_descriptions_tests/src/serving.rt`:
+/// From `crates/services_tests/src/replay/serving.rt`:
 ///
 /// ```
 /// ServiceState::new(alloc, &settings, max_nodes, number)?,
@@ -89,7 +89,7 @@ impl ServiceState {
 /// after exactly as many of the commands as replies were appended, and fewer than all were: the
 /// rest may be given again.
 ///
-/// From `crates/service_descriptions_tests/src/line_runs.rt`:
+/// From `crates/services_tests/src/replay/line_runs.rt`:
 ///
 /// ```
 /// let mut replies = Vec::new(alloc);
