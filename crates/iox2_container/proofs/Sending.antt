@@ -17,11 +17,15 @@ use Rattle.iox2_container.specs.contracts.container.free.FreeListSlotAllocator.T
 use Rattle.iox2_container.specs.contracts.container.slot_map.SlotMap as SlotMap
 use Rattle.iox2_container.specs.contracts.container.counted_map.CountedMap.TheInside as Inside
 use Rattle.iox2_container.specs.contracts.container.slot_map.slots.EntrySlots as EntrySlots
+use Rattle.iox2_container.specs.contracts.container.slot_map.slots.Slots as Slots
 use Rattle.iox2_container.specs.contracts.container.slot_map.Touches as Touches
 use Rattle.iox2_container.specs.declared.container.free.SlotAllocator.{Ghosts as SlotAllocatorGhosts}
 
 Touches-send : IsSend Touches.the_row
 Touches-send = owning_send Touches.the_type tt (λ d. tt) (λ k x w. tt)
+
+pub Slots-send : (C : RattleType) → IsSend C → IsSend (Slots.the_row C)
+Slots-send C s = search (crosses, sendable, Touches-send) depth 20
 
 Cell-send : (T N : RattleType) → IsSend T → IsSend N → IsSend (Cell.the_row T N)
 Cell-send T N t n =
@@ -31,7 +35,7 @@ Cell-send T N t n =
 -- slots
 module _ (T N : RattleType) where
   EntrySlots-send : IsSend T → IsSend N → IsSend (EntrySlots.the_row T N)
-  EntrySlots-send t n = search (crosses, sendable, Touches-send, Cell-send) depth 20
+  EntrySlots-send t n = search (crosses, sendable, Slots-send, Cell-send) depth 20
 
 -- any slot map
 module _ (T S N : RattleType) (slots : SlotAllocatorGhosts S.Denot T.Denot N.Denot)

@@ -8,8 +8,8 @@ use Rattle.iox2_container.specs.State.{Handle, Entry, RegistryState, IsRegistry}
 use Rattle.iox2_container.specs.declared.container.counted_map.RegistryHeader.{RegistryHeader}
 
 -- the cells of slots, how many there is memory for, and how often one was read or written
-pub record Cells (T N : Type 0) : Type 0 where
-  pub cells : List (Cell T N)
+pub record Cells (C : Type 0) : Type 0 where
+  pub cells : List C
   pub room : ℕ
   pub touches : ℕ
 

@@ -16,4 +16,5 @@ pub use registry::{
     Attached, ContainerAddFailure, ContainerRemoveError, Registry, ReleaseMode, ReleaseState,
     entries,
 };
+pub use slot_map::slots::Slots;
 pub use slot_map::{Container, ListContainer};

@@ -1,7 +1,7 @@
 //! Both containers, their slots, and the comparison of the two.
 use super::{Called, is_given};
 use iox2_container::container::{
-    Container, ListContainer, RegistryCall, RegistryReply, Role, compare,
+    Container, ListContainer, RegistryCall, RegistryReply, Role, Slots, compare,
 };
 use iox2_ids::identifiers::UniqueNodeId;
 use std::alloc::{AllocError, Global};
@@ -59,10 +59,11 @@ fn compared_by_entries(alloc: Global, entries: usize) -> Result<bool, AllocError
     compared(alloc, entries, &all)
 }
 
-pub(super) fn calls(alloc: Global, size: usize) -> [Called; 6] {
+pub(super) fn calls(alloc: Global, size: usize) -> [Called; 7] {
     let tickets = size as u64;
     let entries = size.min(MOST_ENTRIES);
     [
+        ("Slots::new", is_given(Slots::new(alloc, size, 0u64))),
         ("Container::new by capacity", scan(alloc, size, u64::MAX)),
         ("Container::new by tickets", scan(alloc, 1, tickets)),
         (

@@ -57,7 +57,7 @@ fn variants_are_shown_by_name(rt: HostRuntime) {
 }
 
 #[test]
-fn handles_and_numbers_are_shown_by_field(rt: HostRuntime) -> Result<(), Fail> {
+fn handles_and_slots_are_shown_by_field(rt: HostRuntime) -> Result<(), Fail> {
     let handle = ContainerHandle::from_parts(7, Role::Reader, 2, 3);
     assert_eq!(rt;
         [
@@ -65,9 +65,13 @@ fn handles_and_numbers_are_shown_by_field(rt: HostRuntime) -> Result<(), Fail> {
                 &handle,
                 "ContainerHandle { service: 7, role: Reader, slot: 2, ticket: 3 }",
             ),
+            is_shown_as(
+                &Slots::new(rt.alloc(), 2, 5u64)?,
+                "Slots { cells: [5, 5], touches: Touches }",
+            ),
             is_shown_as(&ServiceNumbers::after(7), "ServiceNumbers { last: 7 }"),
         ],
-        [true; 2]
+        [true; 3]
     );
     Ok(())
 }
@@ -105,9 +109,9 @@ fn a_scan_is_shown_by_field(rt: HostRuntime) -> Result<(), Fail> {
         &mut scan(rt.alloc(), Role::Node, (3, 9))?,
         "SlotMap { map: CountedMap { header: RegistryHeader { service: 7, role: Node, budget: 9, \
         count: 1, locked: false, used: 2 }, slots: EntrySlots { \
-        cells: [Free(()), Taken { ticket: 1, \
+        slots: Slots { cells: [Free(()), Taken { ticket: 1, \
         details: UniqueNodeId { id: UniqueId { value: 6, kind: PhantomData<_> } } }, Free(())], \
-        touches: Touches }, free: LowestFree, newest_end: 2 } }",
+        touches: Touches } }, free: LowestFree, newest_end: 2 } }",
     )
 }
 
@@ -118,9 +122,9 @@ fn a_list_is_shown_by_field(rt: HostRuntime) -> Result<(), Fail> {
         &mut list(rt.alloc(), Role::Node, (3, 9))?,
         "SlotMap { map: CountedMap { header: RegistryHeader { service: 7, role: Node, budget: 9, \
         count: 1, locked: false, used: 2 }, slots: EntrySlots { \
-        cells: [Free(None), Taken { ticket: 1, \
+        slots: Slots { cells: [Free(None), Taken { ticket: 1, \
         details: UniqueNodeId { id: UniqueId { value: 6, kind: PhantomData<_> } } }, \
-        Free(None)], touches: Touches }, free: FreeList { head: Some(0), fresh: 2 }, \
+        Free(None)], touches: Touches } }, free: FreeList { head: Some(0), fresh: 2 }, \
         newest_end: 2 } }",
     )
 }

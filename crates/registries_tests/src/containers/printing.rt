@@ -59,6 +59,12 @@ fn an_empty_list_is_shown(rt: HostRuntime) -> Result<(), Fail> {
 }
 
 #[test]
+fn slots_are_shown(rt: HostRuntime) -> Result<(), Fail> {
+    assert!(rt; is_shown(&Slots::new(rt.alloc(), 3, 5u64)?));
+    Ok(())
+}
+
+#[test]
 fn calls_are_shown(rt: HostRuntime) -> Result<(), Fail> {
     let id = A.id()?;
     let kept = vec![in rt.alloc(); 7u128, u128::MAX]?;

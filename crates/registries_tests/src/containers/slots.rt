@@ -89,7 +89,20 @@ fn places_that_no_memory_holds(rt: HostRuntime) {
     let most = usize::MAX;
     let scan = scan::<Port>(rt.alloc(), Role::Publisher, (most, 1)).is_err();
     let list = list::<Port>(rt.alloc(), Role::Publisher, (most, 1)).is_err();
-    assert_eq!(rt; [scan, list], [true; 2]);
+    let slots = Slots::new(rt.alloc(), most, 0u16).is_err();
+    assert_eq!(rt; [scan, list, slots], [true; 3]);
+}
+
+#[test]
+fn slots_are_read_written_and_peeked_at(rt: HostRuntime) -> Result<(), Fail> {
+    let mut slots = Slots::new(rt.alloc(), 3, b'-')?;
+    assert_eq!(rt; slots.len(), 3);
+    slots.write(1, b'a');
+    assert_eq!(rt;
+        (slots.read(0), slots.read(1), slots.peek(2)),
+        (b'-', b'a', b'-')
+    );
+    Ok(())
 }
 
 /// The rows in which the entry of this slot comes.

@@ -100,22 +100,21 @@ pub(crate) fn with_ticket<T: Copy>(cell: Option<Occupant<T>>, ticket: u64) -> Op
     }
 }
 
-/// A fixed number of slots, each with a cell in it: an entry with its ticket, or, where it is free,
-/// an `N`. Each call but `len` is a touch, or, where it is given a count of looks, a look.
+/// A fixed number of slots, each with a cell in it.
 ///
-/// Contracts see the cells, how many of them there is memory for, and how often one was touched.
-/// The count takes no bytes.
+/// Contracts see the cells, how many of them there is memory for, and how often one was read or
+/// written. The count takes no bytes.
 #[derive(Debug, Drop)]
-pub struct EntrySlots<T: Copy, N: Copy> {
-    cells: Vec<Cell<T, N>>,
+pub struct Slots<C: Copy> {
+    cells: Vec<C>,
     touches: Touches,
 }
 
-impl<T: Copy, N: Copy> Model for EntrySlots<T, N> {
+impl<C: Copy> Model for Slots<C> {
     ghost use Rattle.std.specs.Prelude.{vec_capacity};
     ghost use Rattle.iox2_container.specs.Cells.{Cells};
 
-    ghost Value = { Cells T N };
+    ghost Value = { Cells C };
 
     ghost view = { λ s. record {
       cells = s.cells.items;
@@ -124,82 +123,68 @@ impl<T: Copy, N: Copy> Model for EntrySlots<T, N> {
     } };
 }
 
-impl<T: Copy, N: Copy> EntrySlots<T, N> {
-    /// So many free slots, each of which keeps this, untouched so far. It takes memory for exactly
+impl<C: Copy> Slots<C> {
+    /// So many slots, each with this cell in it, untouched so far. It takes memory for exactly
     /// them; refused where there is none.
-    pub(crate) fn new(alloc: Global, capacity: usize, next: N) -> Result<Self, AllocError>
-        ensures cells { IfOk result (λ s. s.cells ≡ replicate capacity (Free next)) }
+    pub fn new(alloc: Global, capacity: usize, fill: C) -> Result<Self, AllocError>
+        ensures cells { IfOk result (λ s. s.cells ≡ replicate capacity fill) }
         ensures room { IfOk result (λ s. s.room ≡ capacity) }
         ensures touches { IfOk result (λ s. s.touches ≡ 0) }
     {
         let mut cells = Vec::with_capacity(alloc, capacity)?;
         for _ in 0..capacity {
-            cells.push_reserved(Cell::Free(next));
+            cells.push_reserved(fill);
         }
-        Ok(EntrySlots {
+        Ok(Slots {
             cells,
             touches: Touches::none(),
         })
     }
 
     /// How many slots there are.
-    pub(crate) fn len(&self) -> usize
+    pub fn len(&self) -> usize
         ensures { result ≡ length self.now.cells }
     {
         self.cells.len()
     }
 
     /// The cell in a slot. This is a touch.
-    pub(crate) fn read(&mut self, slot: usize) -> Cell<T, N>
-        requires { slot < length self.old.cells }
-        ensures cell { slice_get self.old.cells slot ≡ Some result }
+    pub fn read(&mut self, index: usize) -> C
+        requires { index < length self.old.cells }
+        ensures cell { slice_get self.old.cells index ≡ Some result }
         ensures cells { self.new.cells ≡ self.old.cells }
         ensures room { self.new.room ≡ self.old.room }
         ensures touches { self.new.touches ≡ self.old.touches + 1 }
     {
-        let cell = self.cells[slot];
+        let cell = self.cells[index];
         self.touches = self.touches.one_more();
         cell
     }
 
-    /// The entry of a slot. This is a touch.
-    pub(crate) fn look(&mut self, slot: usize) -> Option<Occupant<T>>
-        requires { slot < length self.old.cells }
-        ensures cell { slice_get (map shown self.old.cells) slot ≡ Some result }
-        ensures cells { self.new.cells ≡ self.old.cells }
-        ensures room { self.new.room ≡ self.old.room }
-        ensures touched { self.new.touches ≡ self.old.touches + 1 }
-    {
-        self.read(slot).occupant()
-    }
-
     /// Puts a cell into a slot, in place of the one that was there. This is a touch.
-    pub(crate) fn write(&mut self, slot: usize, cell: Cell<T, N>)
-        requires { slot < length self.old.cells }
-        ensures cells { self.new.cells ≡ slice_set self.old.cells slot cell }
+    pub fn write(&mut self, index: usize, cell: C)
+        requires { index < length self.old.cells }
+        ensures cells { self.new.cells ≡ slice_set self.old.cells index cell }
         ensures room { self.new.room ≡ self.old.room }
         ensures touches { self.new.touches ≡ self.old.touches + 1 }
     {
         self.touches = self.touches.one_more();
-        self.cells[slot] = cell;
+        self.cells[index] = cell;
     }
 
-    /// The entry of a slot. This is a look.
-    pub(crate) fn peek_at(&self, slot: usize, looks: &mut Touches) -> Option<Occupant<T>>
-        requires { slot < length self.now.cells }
-        ensures cell { slice_get (map shown self.now.cells) slot ≡ Some result }
-        ensures looks { looks.new.count ≡ looks.old.count + 1 }
+    /// The cell in a slot. This is no touch, and is not counted.
+    pub fn peek(&self, index: usize) -> C
+        requires { index < length self.now.cells }
+        ensures { slice_get self.now.cells index ≡ Some result }
     {
-        let entry = self.cells[slot].occupant();
-        *looks = looks.one_more();
-        entry
+        self.cells[index]
     }
 }
 
-impl<T: Attached + Copy, N: Copy> EntrySlots<T, N> {
+impl<T: Attached + Copy, N: Copy> Slots<Cell<T, N>> {
     /// The details in a slot, if they are the node's. This is a touch.
     #[inline(always)]
-    pub(crate) fn look_for(&mut self, slot: usize, node: &UniqueNodeId) -> Option<T>
+    fn look_for(&mut self, slot: usize, node: &UniqueNodeId) -> Option<T>
         requires { slot < length self.old.cells }
         ensures cells { self.new.cells ≡ self.old.cells }
         ensures room { self.new.room ≡ self.old.room }
@@ -211,6 +196,95 @@ impl<T: Attached + Copy, N: Copy> EntrySlots<T, N> {
         self.touches = self.touches.one_more();
         self.cells[slot].of_node(node)
     }
+}
+
+/// Slots with entries, each with its ticket. A free slot keeps an `N`. Each call but `len` is a
+/// touch, or, where it is given a count of looks, a look.
+#[derive(Debug, Drop)]
+pub struct EntrySlots<T: Copy, N: Copy> {
+    slots: Slots<Cell<T, N>>,
+}
+
+impl<T: Copy, N: Copy> Model for EntrySlots<T, N> {
+    ghost use Rattle.iox2_container.specs.declared.container.cell.Cell.{Cell};
+    ghost use Rattle.iox2_container.specs.Cells.{Cells};
+
+    ghost Value = { Cells (Cell T N) };
+
+    ghost view = { λ p. p.slots };
+}
+
+impl<T: Copy, N: Copy> EntrySlots<T, N> {
+    /// So many free slots, each of which keeps this. Refused where there is no memory for them.
+    pub(crate) fn new(alloc: Global, capacity: usize, next: N) -> Result<Self, AllocError>
+        ensures cells { IfOk result (λ p. p.cells ≡ replicate capacity (Free next)) }
+        ensures room { IfOk result (λ p. p.room ≡ capacity) }
+        ensures touches { IfOk result (λ p. p.touches ≡ 0) }
+    {
+        let slots = Slots::new(alloc, capacity, Cell::Free(next))?;
+        Ok(EntrySlots { slots })
+    }
+
+    /// How many slots there are.
+    pub(crate) fn len(&self) -> usize
+        ensures { result ≡ length self.now.cells }
+    {
+        self.slots.len()
+    }
+
+    /// The cell in a slot. This is a touch.
+    pub(crate) fn read(&mut self, slot: usize) -> Cell<T, N>
+        requires { slot < length self.old.cells }
+        ensures cell { slice_get self.old.cells slot ≡ Some result }
+        ensures cells { self.new.cells ≡ self.old.cells }
+        ensures touches { self.new.touches ≡ self.old.touches + 1 }
+    {
+        self.slots.read(slot)
+    }
+
+    /// The entry of a slot. This is a touch.
+    pub(crate) fn look(&mut self, slot: usize) -> Option<Occupant<T>>
+        requires { slot < length self.old.cells }
+        ensures cell { slice_get (map shown self.old.cells) slot ≡ Some result }
+        ensures cells { self.new.cells ≡ self.old.cells }
+        ensures touched { self.new.touches ≡ self.old.touches + 1 }
+    {
+        self.read(slot).occupant()
+    }
+
+    /// Puts a cell into a slot, in place of the one that was there. This is a touch.
+    pub(crate) fn write(&mut self, slot: usize, cell: Cell<T, N>)
+        requires { slot < length self.old.cells }
+        ensures cells { self.new.cells ≡ slice_set self.old.cells slot cell }
+        ensures touches { self.new.touches ≡ self.old.touches + 1 }
+    {
+        self.slots.write(slot, cell);
+    }
+
+    /// The entry of a slot. This is a look.
+    pub(crate) fn peek_at(&self, slot: usize, looks: &mut Touches) -> Option<Occupant<T>>
+        requires { slot < length self.now.cells }
+        ensures cell { slice_get (map shown self.now.cells) slot ≡ Some result }
+        ensures looks { looks.new.count ≡ looks.old.count + 1 }
+    {
+        *looks = looks.one_more();
+        self.slots.peek(slot).occupant()
+    }
+}
+
+impl<T: Attached + Copy, N: Copy> EntrySlots<T, N> {
+    /// The details in a slot, if they are the node's. This is a touch.
+    #[inline(always)]
+    pub(crate) fn look_for(&mut self, slot: usize, node: &UniqueNodeId) -> Option<T>
+        requires { slot < length self.old.cells }
+        ensures cells { self.new.cells ≡ self.old.cells }
+        ensures touches { self.new.touches ≡ self.old.touches + 1 }
+        ensures found { MatchOption result
+            (SlotIsOf T.node node.now (map shown self.old.cells) slot false)
+            (IsAt T.node node.now (map shown self.old.cells) slot) }
+    {
+        self.slots.look_for(slot, node)
+    }
 
     /// Whether the entry in a slot is the node's. This is a look.
     #[inline(always)]
@@ -220,6 +294,6 @@ impl<T: Attached + Copy, N: Copy> EntrySlots<T, N> {
         ensures looks { looks.new.count ≡ looks.old.count + 1 }
     {
         *looks = looks.one_more();
-        self.cells[slot].is_of(node)
+        self.slots.cells[slot].is_of(node)
     }
 }

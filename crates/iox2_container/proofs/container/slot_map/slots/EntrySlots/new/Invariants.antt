@@ -1,9 +1,0 @@
-use Rattle.iox2_container.proofs.Prelude.{Free, replicate, vec_capacity, vec_len, ◌≡◌}
-use Rattle.iox2_container.proofs.container.slot_map.slots.EntrySlots.new.Given as goal
-
-abbrev pub invariant-loop : goal.invariant-loop
-invariant-loop g l = record {
-  cells : l.cells.items ≡ replicate l.counter (Free l.next);
-  len : vec_len l.cells ≡ l.counter;
-  room : vec_capacity l.cells ≡ l.fn.capacity;
-}
