@@ -206,7 +206,7 @@ pub struct EntrySlots<T: Copy, N: Copy> {
 }
 
 impl<T: Copy, N: Copy> Model for EntrySlots<T, N> {
-    ghost use Rattle.iox2_container.specs.declared.container.cell.Cell.{Cell};
+    ghost use Rattle.iox2_container.specs.declared.container.slot_map.slots.Cell.{Cell};
     ghost use Rattle.iox2_container.specs.Cells.{Cells};
 
     ghost Value = { Cells (Cell T N) };

@@ -1,4 +1,4 @@
-use Rattle.iox2_container.proofs.Prelude.{arith, inr, map, shown, ◌+◌, ◌-◌, ◌∙◌}
+use Rattle.iox2_container.proofs.Prelude.{arith, inr, map, shown, ◌∙◌}
 use Rattle.iox2_container.proofs.Counting.{found_after, others_join}
 use Rattle.iox2_container.proofs.container.passes.next_of.Goals as goal
 
