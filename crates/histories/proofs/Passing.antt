@@ -1,5 +1,5 @@
 -- What explains a history by some steps explains it by those that follow from them.
-use Rattle.histories.proofs.Words.{◌≡◌, ℕ, ◌+◌, ◌<◌, List, [], ◌∷◌, ap, arith, map, Event, begins, times, IsExplained, Leads}
+use Rattle.histories.proofs.Words.{ℕ, ◌<◌, List, [], ◌∷◌, ap, arith, map, Event, begins, times, IsExplained, Leads}
 use Rattle.histories.proofs.Counting.{times-cons, times_one}
 use Rattle.histories.proofs.Indices.{contains_map_of}
 

@@ -1,5 +1,5 @@
 -- The verdicts on a log exclude each other.
-use Rattle.history_logs.proofs.Words.{All, AllZip, Event, Expected, IsExplained, IsKept, IsOrderly, IsSeenRightly, Judged as Call, List, Log, None, Refusal, SeenReply, Service, Some, StepOf, Watched, [], ap, arith, calls_in, eqb, inl, inr, length, news, same_Some, services_in, slice_get, subst, sum-map, sym, ℕ, ◌++◌, ◌+◌, ◌<◌, ◌∙◌, ◌∷◌, ◌≡◌, ◌≢◌}
+use Rattle.history_logs.proofs.Words.{All, AllZip, Expected, IsExplained, IsKept, IsOrderly, IsSeenRightly, Judged as Call, List, Log, None, Refusal, SeenReply, Service, Some, StepOf, Watched, [], ap, arith, calls_in, eqb, inl, inr, length, news, same_Some, services_in, slice_get, subst, sum-map, sym, ℕ, ◌++◌, ◌+◌, ◌<◌, ◌∙◌, ◌∷◌, ◌≡◌, ◌≢◌}
 use Rattle.std.proofs.Common.{sum}
 use Rattle.std.specs.Global.{Vec}
 use Rattle.std.specs.Set.{distinct_count}

@@ -1,5 +1,5 @@
 -- What is explained of a log down to a line is explained down to each line above it.
-use Rattle.history_logs.proofs.Words.{All, All-cons, All-head, All-nil, All-tail, Bool, Contains, HasNo, IsKept, IsOrderly, IsSeenRightly, List, Log, NoneRefused, Refusal, Service, [], ap, append-nil, append_assoc, arith, cases_Bool, cases_lt, false, if◌then◌else◌, inl, inr, length, length-append, line_text, refl, subst, suc, sym, true, zero, ℕ, ◌++◌, ◌+◌, ◌-◌, ◌<◌, ◌==◌, ◌∙◌, ◌∷◌, ◌≡◌, ◌≤◌, ◌⊎◌}
+use Rattle.history_logs.proofs.Words.{All, All-cons, All-head, All-nil, All-tail, Bool, Contains, HasNo, IsSeenRightly, List, Log, NoneRefused, Refusal, Service, [], ap, append-nil, append_assoc, arith, cases_Bool, cases_lt, false, if◌then◌else◌, inl, inr, length, length-append, line_text, refl, suc, sym, true, zero, ℕ, ◌++◌, ◌+◌, ◌-◌, ◌==◌, ◌∙◌, ◌∷◌, ◌≡◌, ◌≤◌, ◌⊎◌}
 use Rattle.history_logs.specs.Laws.{LinesAboveAreExplained, OneLineIsRefused}
 use Rattle.history_logs.specs.Logs.{HasGood, IsFirstRefused, Judged, PassesBound, first_lines}
 use Rattle.history_logs.specs.Reading.{HasRead}
@@ -7,7 +7,7 @@ use Rattle.history_logs.specs.Reading.HasRead.{line, note, nothing}
 use Rattle.history_logs.proofs.Excluding.{all_right_same, kept_read, not_right}
 use Rattle.history_logs.proofs.FirstLines.{lines_line, no_lines}
 use Rattle.history_logs.proofs.Readings.{behind, one_reading}
-use Rattle.history_logs.proofs.Unanswered.{AreNext, Awaits, next_step}
+use Rattle.history_logs.proofs.Unanswered.{Awaits, next_step}
 
 -- the calls that are open wait for their replies
 read_awaits : (text : List ℕ) (count : ℕ) (log : Log) → HasRead text count log

@@ -1,5 +1,5 @@
 -- What is explained of a service after one line more was explained before it.
-use Rattle.history_logs.proofs.Words.{All, All-nil, All-push, All-set, Begin, Begins, Begun, CallerState, Crash, Crashes, End, Event, GoesOn, HasEnded, IsExplained, IsKept, IsOpen, IsOrderly, IsSeenRightly, Judged, Line, List, Log, NamedCommand, None, Option, Part, SeenReply, Service, Some, StepOf, Watched, [], ap, arith, begin, begins, call, called, calls_answered, calls_shown, cases_eq, command, crash, end, get_set_other, given, inl, inr, judged_answered, length, length-append, length_push, news, numbered, option_and_then, option_map, refl, reply, same_Some, service, shown, slice_get, slice_get_within, slice_set, start_of, started, starting, starts, stopped, stopping, stops, subst, sym, take, take-append_seam, take_all, unseen, weak, with_alone, with_begin, with_crash, with_end, with_look, with_over, with_part, ℕ, ◌++◌, ◌+◌, ◌<◌, ◌∙◌, ◌∷◌, ◌≡◌, ◌≢◌}
+use Rattle.history_logs.proofs.Words.{All, All-push, All-set, Begin, Begins, Begun, CallerState, Crash, Crashes, End, Event, GoesOn, HasEnded, IsExplained, IsKept, IsOpen, IsOrderly, IsSeenRightly, Judged, Line, List, Log, NamedCommand, None, Option, Part, SeenReply, Service, Some, StepOf, Watched, [], ap, arith, begin, begins, call, called, calls_answered, calls_shown, cases_eq, command, crash, end, get_set_other, given, inl, inr, judged_answered, length, length-append, length_push, news, numbered, option_and_then, option_map, refl, reply, same_Some, service, shown, slice_get, slice_get_within, slice_set, start_of, started, starting, starts, stopped, stopping, stops, subst, sym, take, take-append_seam, take_all, unseen, weak, with_alone, with_begin, with_crash, with_end, with_look, with_over, with_part, ℕ, ◌++◌, ◌+◌, ◌<◌, ◌∙◌, ◌∷◌, ◌≡◌}
 use Rattle.std.specs.Prelude.{Bool, true}
 use Rattle.histories.proofs.Events.{ended_now, ended_still}
 use Rattle.histories.proofs.Passing.{explained_seen}
