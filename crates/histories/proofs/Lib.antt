@@ -15,3 +15,4 @@ pub mod Alone
 pub mod Growing
 pub mod Following
 pub mod Leaving
+pub mod Passing

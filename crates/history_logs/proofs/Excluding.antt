@@ -1,11 +1,11 @@
 -- The verdicts on a log exclude each other.
-use Rattle.history_logs.proofs.Words.{All, AllZip, Event, Expected, IsExplained, IsKept, IsOrderly, IsSeenRightly, Judged as Call, List, Log, None, Refusal, SeenReply, Service, Some, StepOf, Watched, [], ap, arith, calls_in, eqb, inl, inr, length, news, same_Some, services_in, slice_get, subst, sum-map, sym, ℕ, ◌++◌, ◌+◌, ◌<◌, ◌∙◌, ◌∷◌, ◌≡◌, ◌≢◌}
+use Rattle.history_logs.proofs.Words.{All, AllZip, Expected, IsExplained, IsKept, IsOrderly, IsSeenRightly, Judged as Call, List, Log, None, Refusal, SeenReply, Service, Some, StepOf, Watched, [], ap, arith, calls_in, eqb, inl, inr, length, news, same_Some, services_in, slice_get, subst, sum-map, sym, ℕ, ◌++◌, ◌+◌, ◌<◌, ◌∙◌, ◌∷◌, ◌≡◌, ◌≢◌}
 use Rattle.std.proofs.Common.{sum}
 use Rattle.std.specs.Global.{Vec}
 use Rattle.std.specs.Set.{distinct_count}
 use Rattle.std.proofs.lemmas.List.Elements.{All-contains}
 use Rattle.histories.proofs.Following.{not_refused}
-use Rattle.histories.specs.Histories.{Leads}
+use Rattle.histories.proofs.Passing.{explained_seen}
 use Rattle.iox2_dynamic.specs.Service as dynamic
 use Rattle.iox2_dynamic.specs.declared.dynamic_config.answers.DeregisterNodeState.{DeregisterNodeState}
 use Rattle.iox2_dynamic.specs.declared.dynamic_config.answers.DeregisterNodeState.TheVariants as nodes
@@ -19,7 +19,7 @@ use Rattle.service_descriptions.specs.declared.replay.machine.reply.Reply.{Reply
 use Rattle.service_descriptions.specs.declared.replay.machine.reply.Reply.TheVariants as reply
 use Rattle.history_logs.specs.declared.logs.verdict.Expected.TheVariants as expected
 use Rattle.history_logs.specs.Laws.{VerdictsExclude}
-use Rattle.history_logs.specs.Logs.{HasGood, IsBad, IsFirstRefused, Judged, RefusesAt}
+use Rattle.history_logs.specs.Logs.{HasGood, IsBad, Judged, RefusesAt, RefusesIn}
 use Rattle.history_logs.specs.Reading.{HasRead}
 use Rattle.history_logs.specs.Reading.HasRead.{line, note, nothing}
 use Rattle.history_logs.specs.SameLogs.{IsSameCall, IsSameLog, IsSameReply, IsSameService}
@@ -85,33 +85,6 @@ judged_same c d (other_stop start r s q) number old new step = (
     list_same r s (own_reply x) is = is
     list_same r s (other_ids ids other e) is = tt
 
-module _ {S : Type 0} (Step Other : S → ℕ → S → Type 0)
-    (more : (old : S) (call : ℕ) (new : S) → Step old call new → Other old call new) where
-  leads_more : (order : List ℕ) (old new : S) → Leads Step old order new
-      → Leads Other old order new
-  leads_more [] old new leads = leads
-  leads_more (call ∷ order) old new leads = (
-    leads.0,
-    more old call leads.0 leads.1,
-    leads_more order leads.0 new leads.2,
-  )
-
-  explained_more : (es : List Event) (olds : List S) → IsExplained Step es olds
-      → IsExplained Other es olds
-  explained_more es olds x = (
-    x.0,
-    x.1,
-    x.2,
-    x.3,
-    record {
-      once = x.4.once;
-      begun = x.4.begun;
-      answered = x.4.answered;
-      real_time = x.4.real_time;
-      leads = leads_more x.1 x.0 x.2 x.4.leads;
-    },
-  )
-
 -- what is explained of a service is explained of the same
 step_of : (s t : Service) → IsSameService s t → (old : Watched) (number : ℕ) (new : Watched)
     → StepOf s old number new → StepOf t old number new
@@ -123,7 +96,8 @@ pub right_same : (s t : Service) → IsSameService s t → IsSeenRightly s → I
 right_same s t p right =
     let events : t.events ≡ s.events = ap (λ (x : Service). x.events) p.others in
     let explained =
-    explained_more (StepOf s) (StepOf t) (step_of s t p) s.events (news s) right in
+    explained_seen (StepOf s) (StepOf t) (λ (w : Watched). w) s.events
+    (λ old number new some step. step_of s t p old number new step) (news s) right in
     subst (λ es. IsExplained (StepOf t) es (news t)) (sym events)
     (subst (λ start. IsExplained (StepOf t) s.events (unwatched start ∷ []))
     (sym (same_service_start s t p)) explained)
@@ -136,7 +110,7 @@ all_right_same ss ts zip right =
     right_same s.0 t s.2 (all_get IsSeenRightly ss at s.0 right s.1))
 
 -- what holds of all that was read of the first lines of a log
-kept_read : (text : List ℕ) (count : ℕ) (log : Log) → HasRead text count log → IsKept log
+pub kept_read : (text : List ℕ) (count : ℕ) (log : Log) → HasRead text count log → IsKept log
 kept_read text count log (nothing empty services callers waits) =
     kept_new log services callers waits
 kept_read text count log (note above number old read first none is) =
@@ -152,17 +126,15 @@ none_refused services k s index orderly right r =
     (All-contains IsOrderly services s orderly r.is).history index
     (All-contains IsSeenRightly services s right r.is) r.stops
 
--- the same in each reading of a log
-right_not_refused : (bytes : List ℕ) (count : ℕ) (log : Log) (rest : List ℕ)
-    → HasGood bytes count log rest → All IsSeenRightly log.services → (r : Refusal)
-    → ¬ (IsFirstRefused bytes r)
-right_not_refused bytes count log rest good right r first =
-    let whole = first.whole.1 in
-    let same = one_reading bytes count whole.0 log whole.1 rest whole.2 good whole.3 in
-    let refusal = whole.4 in
-    none_refused whole.1.services first.whole.0.reply refusal.s refusal.index
-    (kept_read whole.3.text whole.0 whole.1 whole.3.read).orderly
-    (all_right_same log.services whole.1.services same.2.services right) refusal.stops
+-- the same in each reading of a text
+pub not_right : (text : List ℕ) (count : ℕ) (log : Log) (rest : List ℕ)
+    → HasGood text count log rest → All IsSeenRightly log.services → (r : Refusal)
+    → ¬ (RefusesIn text r)
+not_right text count log rest good right r is =
+    let same = one_reading text count is.0 log is.1 rest is.2 good is.3 in
+    none_refused is.1.services r.reply is.4.s is.4.index
+    (kept_read is.3.text is.0 is.1 is.3.read).orderly
+    (all_right_same log.services is.1.services same.2.services right) is.4.stops
 
 -- as many calls and services
 same_counts : (log other : Log) → IsSameLog log other
@@ -203,13 +175,13 @@ no_end log rest e end waits some (inr (inr bad)) =
 pub verdicts_exclude : (bytes : List ℕ) → VerdictsExclude bytes
 unfolding Judged
 verdicts_exclude bytes = record {
-  conforms_or_refused = λ n m r a b. right_not_refused bytes a.0 a.1 [] a.2 a.4 r b;
+  conforms_or_refused = λ n m r a b. not_right bytes a.0 a.1 [] a.2 a.4 b.whole.0 b.whole.1;
   conforms_or_bad = λ n m k e a b.
       let same = one_reading bytes a.0 b.0 a.1 b.1 [] b.2 a.2 b.3 in
       let counts = same_counts a.1 b.1 same.2 in
       no_end b.1 b.2 e (sym same.1) (no_wait a.1.waits b.1.waits same.2.waits a.3)
       (subst (λ x. 0 < x) (a.6 ∙ counts.1) a.7) b.5;
-  bad_or_refused = λ k e r a b. right_not_refused bytes a.0 a.1 a.2 a.3 a.4 r b;
+  bad_or_refused = λ k e r a b. not_right bytes a.0 a.1 a.2 a.3 a.4 b.whole.0 b.whole.1;
   one_count = λ n m i j a b.
       let same = one_reading bytes a.0 b.0 a.1 b.1 [] [] a.2 b.2 in
       let counts = same_counts a.1 b.1 same.2 in

@@ -11,7 +11,7 @@ abbrev IsOther : ℕ → Type 0
 IsOther b = b ≢ 10
 
 -- a line comes first
-lines_line : (k : ℕ) (text after : List ℕ) → HasNo 10 text
+pub lines_line : (k : ℕ) (text after : List ℕ) → HasNo 10 text
     → first_lines (suc k) (text ++ 10 ∷ after) ≡ text ++ 10 ∷ first_lines k after
 unfolding first_lines
 lines_line k [] after none = refl
@@ -72,7 +72,7 @@ before_bad bytes count all rest none h b =
     sym (rw more at (b.first (suc (all - count - 1)))
     ∙ ap (λ l. b.front ++ l) (lines_rest _ rest none) ∙ sym b.split)
 
-no_lines : (bytes : List ℕ) → first_lines 0 bytes ≡ []
+pub no_lines : (bytes : List ℕ) → first_lines 0 bytes ≡ []
 unfolding first_lines
 no_lines bytes = refl
 

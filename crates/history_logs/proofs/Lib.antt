@@ -27,3 +27,5 @@ pub mod SameSeen
 pub mod SameSteps
 pub mod Readings
 pub mod Excluding
+pub mod Unanswered
+pub mod Prefixes

@@ -60,7 +60,7 @@ last_line text count log (line above number old read l is none new goes) = inr (
 })
 
 -- a line between what is above it and what follows
-behind : (x first after rest : List ℕ)
+pub behind : (x first after rest : List ℕ)
     → (x ++ (first ++ 10 ∷ after)) ++ rest ≡ x ++ (first ++ 10 ∷ (after ++ rest))
 behind x first after rest =
     append_assoc x (first ++ 10 ∷ after) rest

@@ -1,12 +1,12 @@
 -- What holds of all logs.
-use Rattle.std.specs.Prelude.{◌≡◌, ◌≢◌, ◌⊎◌, ◌++◌, ◌∷◌, [], ℕ, false, List, Option}
+use Rattle.std.specs.Prelude.{◌≡◌, ◌≢◌, ◌⊎◌, ◌+◌, ◌≤◌, ◌++◌, ◌∷◌, [], ℕ, false, All, Contains, List, Option}
 use Rattle.log_lines.specs.Lines.Line.{given}
 use Rattle.log_lines.specs.States.{State}
 use Rattle.log_lines.specs.States.State.{nodes, ports, entry}
 use Rattle.history_logs.specs.declared.logs.verdict.Expected.{Expected}
 use Rattle.history_logs.specs.declared.logs.verdict.Refusal.{Refusal}
 use Rattle.history_logs.specs.declared.logs.verdict.Verdict.TheVariants.{BadLine, Conforms, Refused}
-use Rattle.history_logs.specs.Logs.{HasGood, Judged}
+use Rattle.history_logs.specs.Logs.{HasGood, IsSeenRightly, Judged, PassesBound, first_lines}
 use Rattle.history_logs.specs.Reading.{GoesOn, IsNamed, Log}
 use Rattle.history_logs.specs.SameLogs.{IsSameLog}
 use Rattle.history_logs.specs.Seen.{Service, unseen}
@@ -50,3 +50,32 @@ pub record VerdictsExclude (bytes : List ℕ) : Type 0 where
       → (n ≡ i) × (m ≡ j)
   pub one_line : (k j : ℕ) (e f : Expected) → Judged bytes (BadLine k e)
       → Judged bytes (BadLine j f) → k ≡ j
+
+-- What is explained down to a line is explained down to each line above it: where an order explains
+-- what is seen of each service in the good ones of so many lines, one does in those of fewer. There
+-- a call that is answered further down has no reply, and a weak listing that is answered there is
+-- open.
+abbrev pub LinesAboveAreExplained : Type 0
+LinesAboveAreExplained =
+    (bytes : List ℕ) (n m : ℕ) → n ≤ m
+    → (count other_count : ℕ) (log other : Log) (rest other_rest : List ℕ)
+    → HasGood (first_lines n bytes) count log rest
+    → HasGood (first_lines m bytes) other_count other other_rest
+    → All IsSeenRightly other.services → All IsSeenRightly log.services
+
+-- what is seen of a service in the good lines of the text passes a bound
+abbrev pub PassesBoundIn : List ℕ → Type 0
+PassesBoundIn text =
+    (count : ℕ) × (log : Log) × (rest : List ℕ) × HasGood text count log rest
+    × ((s : Service) × (line : ℕ) × Contains log.services s × PassesBound s line)
+
+-- Where a log is refused at a line, what is seen down to it is not explained, nor what is seen down
+-- to a line below it. So it is refused at a line below it only where a bound is passed above that
+-- one.
+pub record OneLineIsRefused (bytes : List ℕ) : Type 0 where
+  pub below : (r : Refusal) → Judged bytes (Refused r) → (m : ℕ) → r.line ≤ m
+      → (count : ℕ) (log : Log) (rest : List ℕ) → HasGood (first_lines m bytes) count log rest
+      → ¬ (All IsSeenRightly log.services)
+  pub apart : (r other : Refusal) (above : ℕ) → Judged bytes (Refused r)
+      → Judged bytes (Refused other) → r.line ≤ above → other.line ≡ above + 1
+      → PassesBoundIn (first_lines above bytes)

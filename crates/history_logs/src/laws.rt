@@ -1,6 +1,7 @@
 //! What holds of all logs, and of the comparison and the clone of `Expected`.
 ghost use Rattle.std.specs.Prelude.{◌≡◌, ◌↔◌, ℕ, List, IsTrue, IsOkAnd};
 ghost use Rattle.history_logs.specs.Laws.{EmptyStatesChangeNothing, LogsHaveOneReading};
+ghost use Rattle.history_logs.specs.Laws.{LinesAboveAreExplained, OneLineIsRefused};
 ghost use Rattle.history_logs.specs.Laws.{VerdictsExclude};
 
 use crate::logs::Expected;
@@ -35,4 +36,17 @@ pub fn logs_have_one_reading()
 #[tactic(auto, using(crate::proofs::Excluding::verdicts_exclude))]
 pub fn verdicts_exclude_each_other()
     ensures { (bytes : List ℕ) → VerdictsExclude bytes }
+{}
+
+/// What is explained down to a line of a log is explained down to each line above it, where the
+/// calls that are answered further down are open.
+pub fn lines_above_are_explained()
+    ensures { LinesAboveAreExplained }
+{}
+
+/// Where a log is refused at a line, what is seen is explained down to no line from there on. So it
+/// is refused at two lines only where a bound is passed above the later one.
+#[tactic(auto, using(crate::proofs::Prefixes::one_line_refused))]
+pub fn logs_are_refused_at_one_line()
+    ensures { (bytes : List ℕ) → OneLineIsRefused bytes }
 {}

@@ -15,3 +15,4 @@ pub mod Given
 pub mod MovingParts
 pub mod MovingSteps
 pub mod Moving
+pub mod Fewer

@@ -41,7 +41,7 @@ same_seen there l =
       filter_again (is_among there) (is_among there) l.lasting (λ k d h. inr refl),
     ) refl
 
-lacking_is : (l m : Look) → lacking l ≡ Some m → l ≡ m
+pub lacking_is : (l m : Look) → lacking l ≡ Some m → l ≡ m
 lacking_is l m e = elim (cases_Bool (length l.unseen == 0 && length l.lasting == 0)) [
   | inl t ↦
       (let bars : None ≡ Some m = subst (λ (o : Option Look). o ≡ Some m) (rw t refl) e in
