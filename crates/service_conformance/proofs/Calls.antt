@@ -1,5 +1,5 @@
 -- What calls that were seen do.
-use Rattle.service_conformance.proofs.Names.{All-push, All-weaker, AllocError, Contains, Contains-append_left, Contains-push, IfOk, List, None, Option, Result, Some, Vec, [], ap, arith, false, inl, inr, refl, subst, sym, true, ℕ, ◌++◌, ◌+◌, ◌<◌, ◌∙◌, ◌∷◌, ◌≡◌, ◌⊎◌, cases_lt, IfOk-weaker, All-cons, All-nil, All, get_or, length, ◌≢◌, all_pairs_push, AreAll, ArePossible, ArePossibleWords, AreRepliesOf, ByPort, Call, CallStep, CanServe, ChangesNothing, Command, GivesBelow, Handle, IsCovered, IsIdleCall, IsSameReply, IsService, LeadsOn, LeadsTo, LineReply, MayGiveIn, Part, Possible, PossibleReplies, Reply, SeenReply, Serves, ServesCall, ServesDead, Service, ReadsReply, changes_nothing, handle_in, is_removal, named, quiet, reply_in, seen_text, text_of, AreEnough, AreGivenBelow, All-head, Ok, AddStep, Entry, First, PortDetails, RegistryState, Second, ServesDeregister, ServesRelease, Side, ports_at, role_of, slot_entry}
+use Rattle.service_conformance.proofs.Names.{All-push, All-weaker, AllocError, Contains, Contains-append_left, Contains-push, IfOk, List, None, Option, Result, Some, [], ap, arith, false, inl, inr, refl, subst, sym, true, ℕ, ◌++◌, ◌+◌, ◌<◌, ◌∙◌, ◌∷◌, ◌≡◌, ◌⊎◌, cases_lt, IfOk-weaker, All-cons, All-nil, All, get_or, length, ◌≢◌, all_pairs_push, AreAll, ArePossible, ArePossibleWords, AreRepliesOf, Call, CallStep, CanServe, ChangesNothing, Command, GivesBelow, Handle, IsIdleCall, IsSameReply, IsService, LeadsOn, LeadsTo, LineReply, MayGiveIn, Part, Possible, PossibleReplies, Reply, SeenReply, Serves, ServesCall, ServesDead, Service, ReadsReply, changes_nothing, handle_in, is_removal, named, quiet, reply_in, seen_text, text_of, AreEnough, AreGivenBelow, All-head, Ok, AddStep, Entry, First, RegistryState, Second, ServesDeregister, ServesRelease, ports_at, role_of, slot_entry, Cleanup}
 use Rattle.service_descriptions.specs.declared.replay.machine.command.Command.TheVariants as command
 use Rattle.service_descriptions.specs.declared.replay.machine.reply.Reply.TheVariants as reply
 use Rattle.service_conformance.specs.declared.conformance.possible.Part.TheVariants as part
@@ -10,7 +10,7 @@ use Rattle.service_conformance.proofs.Words.{IsPlain, same_handle, same_or_plain
 use Rattle.std.proofs.lemmas.Bool.{cases_eq}
 use Rattle.iox2_container.proofs.Lists.{All-back}
 use Rattle.iox2_container.proofs.Keeping.{All-gain}
-use Rattle.service_conformance.proofs.Taking.{its_ports, Takes, at_side, of_ports, taken_at}
+use Rattle.service_conformance.proofs.Taking.{its_ports, taken_at}
 
 -- of a registry
 one_added : {T : Type 0} (r n : RegistryState T) (d : T) (g h : Handle) → AddStep r d (Ok g) n
@@ -35,15 +35,15 @@ LeavesWith s handles c h next =
     (mid : Service) × Serves s None handles c (reply.Handle h) mid × IsService mid
     × (quiet mid ≡ next)
 
-pub one_slot : (s next : Service) (handles : List (Option Handle)) (c : Command) → IsCovered c
+pub one_slot : (s next : Service) (handles : List (Option Handle)) (c : Command)
     → (g h : Handle) → LeavesWith s handles c g next → LeavesWith s handles c h next
     → g.slot ≡ h.slot
-one_slot s next handles (command.Register id) i g h one other =
+one_slot s next handles (command.Register id) g h one other =
     let same : other.0.nodes.registry ≡ one.0.nodes.registry =
     ap (λ (w : Service). w.nodes.registry) (other.3 ∙ sym one.3) in
     one_added s.nodes.registry one.0.nodes.registry id g h one.1.0.step
     (rw same at other.1.0.step)
-one_slot s next handles (command.Add d) i g h one other =
+one_slot s next handles (command.Add d) g h one other =
     let a = one.1.1.1.0 in
     let side = a.side in
     let t = taken_at (λ r m. AddStep r d (Ok g) m) (role_of d) s one.0 a one.1.1.1.1 side
@@ -55,17 +55,17 @@ one_slot s next handles (command.Add d) i g h one other =
     ∙ (ap (λ (w : Service). (ports_at w side).registry)
     (sym u.left ∙ (other.3 ∙ (sym one.3 ∙ t.left))) ∙ its_ports side s t.registry) in
     one_added (ports_at s side).registry t.registry d g h t.step (rw same at u.step)
-one_slot s next handles (command.Deregister k) i g h one other =
+one_slot s next handles (command.Deregister k) g h one other =
     absurd (neither (λ x. ServesDeregister s x (reply.Handle g) one.0) (λ n. n) (λ x n. n)
     (named handles k) one.1)
-one_slot s next handles (command.Release k) i g h one other =
+one_slot s next handles (command.Release k) g h one other =
     absurd (neither (λ x. ServesRelease s x (reply.Handle g) one.0) (λ n. n) (λ x n. n)
     (named handles k) one.1)
-one_slot s next handles command.Nodes i g h one other = absurd one.1.0
-one_slot s next handles (command.List role) i g h one other = absurd one.1.0
-one_slot s next handles (command.Count role) i g h one other = absurd one.1.0
-one_slot s next handles (command.Dead dead (ByPort kept)) i g h one other = absurd one.1
-one_slot s next handles _ i g h one other = absurd i
+one_slot s next handles command.Nodes g h one other = absurd one.1.0
+one_slot s next handles (command.List role) g h one other = absurd one.1.0
+one_slot s next handles (command.Count role) g h one other = absurd one.1.0
+one_slot s next handles (command.Dead dead cleanup) g h one other = absurd one.1
+one_slot s next handles _ g h one other = absurd (let z = one.1.0 in cc)
 
 pub all_of_one : {S : Type 0} (Fact : S → Type 0) (x : S) → Fact x
     → ((other : S) → Fact other → other ≡ x) → AreAll Fact (x ∷ [])
@@ -115,28 +115,25 @@ same_given s part.First h k m n e = same_handle s.ports.first.registry h k m n e
 same_given s part.Second h k m n e = same_handle s.ports.second.registry h k m n e
 
 -- a reply that gives no handle and is of no removal changes nothing
-dead_any : (s mid : Service) (dead : ℕ) (kept : Vec ℕ) (r : Reply) → is_removal r ≡ false
-    → ServesDead s dead (ByPort kept) r mid → quiet mid ≡ s
-dead_any s mid dead kept reply.HasOwners e so = absurd (let z : true ≡ false = e in cc)
-dead_any s mid dead kept reply.NoMoreOwners e so = absurd (let z : true ≡ false = e in cc)
-dead_any s mid dead kept _ e so = absurd so
+dead_any : (s mid : Service) (dead : ℕ) (cleanup : Cleanup) (r : Reply) → is_removal r ≡ false
+    → ServesDead s dead cleanup r mid → quiet mid ≡ s
+dead_any s mid dead cleanup reply.HasOwners e so = absurd (let z : true ≡ false = e in cc)
+dead_any s mid dead cleanup reply.NoMoreOwners e so = absurd (let z : true ≡ false = e in cc)
+dead_any s mid dead cleanup _ e so = absurd so
 
-stays : (s mid : Service) (handles : List (Option Handle)) (c : Command) (r : Reply) → IsCovered c
+stays : (s mid : Service) (handles : List (Option Handle)) (c : Command) (r : Reply)
     → quiet s ≡ s → handle_in r ≡ None → is_removal r ≡ false
     → Serves s None handles c r mid → quiet mid ≡ s
-stays s mid handles (command.Register id) r i rest none e so =
+stays s mid handles (command.Register id) r rest none e so =
     register_stays s rest id r none mid so
-stays s mid handles (command.Deregister k) r i rest none e so =
+stays s mid handles (command.Deregister k) r rest none e so =
     deregister_stays s rest (named handles k) r e mid so
-stays s mid handles command.Nodes r i rest none e so = ap quiet so.1 ∙ rest
-stays s mid handles (command.Add d) r i rest none e so = attach_stays s d rest r none mid so
-stays s mid handles (command.Release k) r i rest none e so =
+stays s mid handles (command.Add d) r rest none e so = attach_stays s d rest r none mid so
+stays s mid handles (command.Release k) r rest none e so =
     release_stays s rest (named handles k) r e mid so
-stays s mid handles (command.List role) r i rest none e so = ap quiet so.1 ∙ rest
-stays s mid handles (command.Count role) r i rest none e so = ap quiet so.1 ∙ rest
-stays s mid handles (command.Dead dead (ByPort kept)) r i rest none e so =
-    dead_any s mid dead kept r e so
-stays s mid handles _ r i rest none e so = absurd i
+stays s mid handles (command.Dead dead cleanup) r rest none e so =
+    dead_any s mid dead cleanup r e so
+stays s mid handles _ r rest none e so = ap quiet so.1 ∙ rest
 
 module _ (call : Call) (s : Service) where
   leads_on : (r : Reply) (next : Service) → CanServe (ServesCall call s) r
@@ -147,11 +144,11 @@ module _ (call : Call) (s : Service) where
       → LeadsOn call s r other → other ≡ next
   one_next r next other leads on = sym on.3 ∙ leads on.0 on.1
 
-  module _ (is : IsService s) (rest : quiet s ≡ s) (covered : IsCovered call.command) where
+  module _ (is : IsService s) (rest : quiet s ≡ s) where
     nothing : (r : Reply) (next : Service) → IsPlain r → LeadsOn call s r next → next ≡ s
     nothing r next n on =
         sym on.3
-        ∙ stays s on.0 (call.handle ∷ []) call.command r covered rest n.0 n.1 on.1
+        ∙ stays s on.0 (call.handle ∷ []) call.command r rest n.0 n.1 on.1
 
     -- replies that are the same lead on to one service
     same_next : (r q : Reply) (next other : Service) → IsSameReply r q
@@ -204,26 +201,26 @@ module _ (call : Call) (s : Service) where
 
     -- a state that was found before is another one
     given_differs : (slot : ℕ) (xs : List Service) (h : Handle) (next : Service)
-        → IsCovered call.command → h.slot ≡ slot → LeadsOn call s (reply.Handle h) next
+        → h.slot ≡ slot → LeadsOn call s (reply.Handle h) next
         → All (GivesBelow call s p slot) xs → (k : ℕ) (d : Service) → k < length xs
         → get_or xs k d ≢ next
-    given_differs slot xs h next covered at on all k d within same =
+    given_differs slot xs h next at on all k d within same =
         let g = all k d within in
         absurd (omega (
           arith,
           at,
           g.2,
-          one_slot s next (call.handle ∷ []) call.command covered g.0 h
+          one_slot s next (call.handle ∷ []) call.command g.0 h
               (subst (LeadsOn call s (reply.Handle g.0)) same g.3) on,
         ))
 
     pub slot_given : (slot : ℕ) (xs : List Service) (h : Handle) (next : Service)
-        → IsCovered call.command → h.slot ≡ slot → MayGiveIn s p h
+        → h.slot ≡ slot → MayGiveIn s p h
         → CanServe (ServesCall call s) (reply.Handle h)
         → LeadsTo (ServesCall call s) (reply.Handle h) next
         → AreGivenBelow call s p slot xs
         → AreGivenBelow call s p (slot + 1) (xs ++ next ∷ [])
-    slot_given slot xs h next covered at may can leads given =
+    slot_given slot xs h next at may can leads given =
         let on = leads_on (reply.Handle h) next can leads in (
           all_and_one (GivesBelow call s p slot) (GivesBelow call s p (slot + 1)) xs next
               (λ x g. (g.0, g.1, omega (arith, g.2), g.3))
@@ -235,7 +232,7 @@ module _ (call : Call) (s : Service) where
                     (same_given s p g.0 h g.1 may (omega (arith, at, g.2))) g.3))
               ])) given.0,
           all_pairs_push (λ a b. a ≢ b) xs next given.1
-              (given_differs slot xs h next covered at on given.0.0),
+              (given_differs slot xs h next at on given.0.0),
         )
 
     pub none_given : (xs : List Service) → xs ≡ [] → AreGivenBelow call s p 0 xs
@@ -267,13 +264,13 @@ module _ (call : Call) (s : Service) where
         inr (many, given.1),
       )
 
-module _ (call : Call) (covered : IsCovered call.command) (seen : SeenReply)
-    (has : call.words ≡ Some (seen_text seen)) (nothing : changes_nothing seen ≡ true) where
+module _ (call : Call) (seen : SeenReply) (has : call.words ≡ Some (seen_text seen))
+    (nothing : changes_nothing seen ≡ true) where
   same_state : (old mid : Service) (r : Reply) → quiet old ≡ old → text_of r ≡ seen_text seen
       → ServesCall call old r mid → quiet mid ≡ old
   same_state old mid r rest text served =
       let reported = reported_nothing r seen nothing text in
-      stays old mid (call.handle ∷ []) call.command r covered rest reported.0 reported.1 served
+      stays old mid (call.handle ∷ []) call.command r rest reported.0 reported.1 served
 
   pub changes_none : ChangesNothing call
   changes_none old new step =

@@ -1,7 +1,8 @@
 -- The one state that a reply leaves.
 use Rattle.service_conformance.proofs.Names.{Err, None, Ok, Option, Some, ap, false, inl, inr, refl, subst, true, ℕ, ◌∙◌, ◌≡◌, AddStep, AddsPort, CanServe, ContainerHandleNotOwnedByContainer, Default, First, Handle, IsRegistry, IsService, LeadsTo, LockIfLastIndex, MayGive, OutOfSpace, PortDetails, RegistryState, ReleaseState, RemoveStep, RemovesPort, Reply, Reports, Second, ServesAdd, ServesDeregister, ServesRegister, ServesRelease, Service, Side, TakesEntry, at_rest, handle_in, is_removal, ports_at, quiet, role_at, role_of}
-use Rattle.service_conformance.proofs.Taking.{has_role, lacks, Takes, at_side, of_ports, ports_taken, taken_at}
+use Rattle.service_conformance.proofs.Taking.{at_side, ports_taken}
 use Rattle.service_descriptions.specs.declared.replay.machine.reply.Reply.TheVariants as reply
+use Rattle.service_conformance.proofs.Possibles.{adds_at, removes_at}
 use Rattle.service_conformance.proofs.Registries.{add_once, was_given}
 use Rattle.service_conformance.proofs.Quiet.{service_quiet}
 
@@ -91,10 +92,6 @@ module _ (s : Service) (d : PortDetails) where
   attach_stays rest _ e = λ w so. absurd so
 
   module _ (side : Side) (h : Handle) (role : role_of d ≡ role_at s.pattern side) where
-    added : (w : Service) → ServesAdd s d (reply.Handle h) w
-        → Takes (of_ports side) (λ r m. AddStep r d (Ok h) m) s (quiet w)
-    added w so = taken_at _ (role_of d) s w so.1.1.0 so.1.1.1 side role
-
     pub attach_enters : CanServe (ServesAdd s d) (reply.Handle h)
         → (m : RegistryState PortDetails)
         → AddStep (ports_at s side).registry d (Ok h) m → IsRegistry m
@@ -102,13 +99,13 @@ module _ (s : Service) (d : PortDetails) where
         × IsService (at_side side s m)
     attach_enters can m step k =
         leaves (ServesAdd s d) (reply.Handle h) (at_side side s m) can (λ w so.
-        let t = added w so in
+        let t = adds_at s d side role so.1.0 (Ok h) w so.1.1 in
         t.left ∙ ap (at_side side s) (add_once _ t.registry m d (Ok h) t.step step t.whole k))
 
     pub attach_may : CanServe (ServesAdd s d) (reply.Handle h)
         → TakesEntry (ports_at s side).registry × MayGive (ports_at s side).registry h
     attach_may can =
-        let t = added can.0 can.1 in
+        let t = adds_at s d side role can.1.1.0 (Ok h) can.0 can.1.1.1 in
         ((t.step.0, t.step.1), was_given _ t.registry d h t.step t.whole)
 
 refused_removal : (s : Service) (h : Handle) → quiet s ≡ s → (w : Service)
@@ -131,17 +128,11 @@ module _ (s : Service) (h : Handle) where
   module _ (side : Side) (role : h.role ≡ role_at s.pattern side) (m : RegistryState PortDetails)
       (gone : (state : ReleaseState) (new : RegistryState PortDetails)
       → RemoveStep (ports_at s side).registry h Default (Ok state) new → new ≡ m) where
-    gone_at : (state : ReleaseState) (w : Service) → RemovesPort s h (Ok state) w
-        → quiet w ≡ at_side side s m
-    gone_at state w (inl a, e) =
-        let t = taken_at (λ r m. RemoveStep r h Default (Ok state) m) h.role s w a e side role in
-        t.left ∙ ap (at_side side s) (gone state t.registry t.step)
-    gone_at state w (inr a, e) =
-        absurd (lacks s.pattern h.role a.0 (has_role s.pattern side h.role role))
-
     pub release_goes : (r : Reply) → is_removal r ≡ true
         → LeadsTo (ServesRelease s (Some h)) r (at_side side s m)
-    release_goes reply.Released e = λ w so. gone_at so.0 w so.1
+    release_goes reply.Released e = λ w so.
+        let t = removes_at s h side role (Ok so.0) w so.1 in
+        t.left ∙ ap (at_side side s) (gone so.0 t.registry t.step)
     release_goes reply.NotOwned e = absurd (let z : false ≡ true = e in cc)
     release_goes _ e = λ w so. absurd so
 

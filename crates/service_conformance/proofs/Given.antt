@@ -251,10 +251,3 @@ module _ (s : Service) (i : IsService s) where
       (λ (e : Entry PortDetails). 0 < entries_of_node (node_of e.details) s.nodes.registry)
       (ports_at s g.0).registry.entries (x ∷ []) p.registered) in
       none has
-
--- a node is registered in what is the same service
-pub has_moved : (s t : Service) (node id : ℕ) → s ≡ t → node ≡ id
-    → 0 < entries_of_node node s.nodes.registry → 0 < entries_of_node id t.nodes.registry
-has_moved s t node id same is h =
-    subst (λ n. 0 < entries_of_node n t.nodes.registry) is
-    (subst (λ (x : Service). 0 < entries_of_node node x.nodes.registry) same h)

@@ -4,8 +4,9 @@ use Rattle.iox2_container.proofs.Counting.{counted-InsertsOne, one_if}
 use Rattle.service_conformance.specs.declared.conformance.mover.Change.TheVariants as change
 use Rattle.service_conformance.proofs.Judged.{one_call}
 use Rattle.service_conformance.proofs.Looking.{looks_between, looks_twice}
-use Rattle.service_conformance.proofs.MovingParts.{Exchange, nodes_first, nodes_swap, others_first, ports_first, ports_swap, roles_apart}
-use Rattle.service_conformance.proofs.Taking.{Takes, TakesPorts, of_nodes}
+use Rattle.service_conformance.proofs.MovingParts.{Exchange, nodes_first, others_first, ports_first, ports_swap, removals_swap, roles_apart}
+use Rattle.service_conformance.proofs.Taking.{Takes, TakesPorts}
+use Rattle.service_conformance.proofs.Taking.Place.{of_nodes}
 use Rattle.service_conformance.proofs.MovingSteps.{Addition, Fits, Made, May, NodeRemoval, PortRemoval, does, fits, has_node, leaves_service}
 
 -- a node has as many entries at least where one is not yet removed
@@ -74,7 +75,9 @@ module _ (c other : Call) (h k : Handle) (old mid new : Service) (i : IsService 
       → Fits x mid new
       → (w : Exchange (Made y other by h) (Made x c is k) old mid new) × Fits x old w.between
   swaps change.NodeRemoved change.NodeRemoved is by may m n a b f =
-      let w = nodes_swap (λ q. q ≡ Unlocked) LockIfLastIndex h k old mid new i a b in (
+      let w =
+      removals_swap of_nodes LockIfLastIndex (λ q. q ≡ Unlocked) h k old mid new i.nodes_are a b
+      in (
         w,
         λ id e.
             let some : has_ports_of id new.ports ≡ true =

@@ -1,10 +1,11 @@
 -- Changes of one registry of a service, and two of them in either order.
-use Rattle.service_conformance.proofs.Names.{Bool, List, Ok, [], ap, arith, length, refl, subst, sym, true, ℕ, ◌++◌, ◌||◌, ◌∙◌, ◌∷◌, ◌≡◌, inl, inr, map, ◌==◌, ◌≢◌, ◌⊎◌, Entry, Handle, InsertsOne, IsRegistry, RegistryState, ReleaseMode, ReleaseState, RemoveStep, handle_of, lock_after, release_state, with_left, First, IsService, PortDetails, Second, Service, Side, is_among, port_ids, port_of, port_value, ports_at, role_at}
+use Rattle.service_conformance.proofs.Names.{Bool, List, Ok, [], ap, arith, length, refl, subst, sym, true, ℕ, ◌++◌, ◌||◌, ◌∙◌, ◌∷◌, ◌≡◌, inl, inr, map, ◌==◌, ◌≢◌, ◌⊎◌, Entry, Handle, InsertsOne, IsRegistry, RegistryState, ReleaseMode, ReleaseState, RemoveStep, handle_of, lock_after, release_state, with_left, First, IsService, PortDetails, Second, Service, Side, is_among, port_ids, port_of, port_value, role_at}
 use Rattle.iox2_container.proofs.Lists.{gains_later, length-InsertsOne}
 use Rattle.service_conformance.proofs.Registries.{kept_without}
 use Rattle.service_conformance.proofs.Looking.{by_cases, IsBetween, LosesIds, loses_between}
 use Rattle.service_conformance.specs.declared.conformance.possible.Part.TheVariants as part
-use Rattle.service_conformance.proofs.Taking.{its_ports, Place, Takes, TakesPorts, at_side, of_nodes, of_ports, with_nodes, ports_are}
+use Rattle.service_conformance.proofs.Taking.{its_ports, Item, Place, Takes, TakesPorts, ports_are, registry_at, with_at}
+use Rattle.service_conformance.proofs.Taking.Place.{of_nodes, of_ports}
 
 -- the entries without the second alone
 record WithoutSecond {T : Type 0} (whole left : List (Entry T)) (first second : Entry T) : Type 0
@@ -125,79 +126,72 @@ exchanged w before after = record {
   second = w.second;
 }
 
--- what is put in one place leaves the other as it is
-record IsApart {T U : Type 0} (p : Place T) (q : Place U) : Type 0 where
-  pub stays : (s : Service) (n : RegistryState T) → q.at (p.put s n) ≡ q.at s
-  pub swaps : (s : Service) (n : RegistryState T) (m : RegistryState U)
-      → q.put (p.put s n) m ≡ p.put (q.put s m) n
-  pub between : (s : Service) (n : RegistryState T) (m : RegistryState U)
-      → IsBetween s (p.put s n) (q.put (p.put s n) m)
+-- what is put in one place leaves another as it is
+apart : (p q : Place) → p ≢ q → (s : Service) (n : RegistryState (Item p))
+    (m : RegistryState (Item q)) → (registry_at q (with_at p s n) ≡ registry_at q s)
+    × (with_at q (with_at p s n) m ≡ with_at p (with_at q s m) n)
+apart of_nodes of_nodes differ s n m = absurd (differ refl)
+apart of_nodes (of_ports First) differ s n m = (refl, refl)
+apart of_nodes (of_ports Second) differ s n m = (refl, refl)
+apart (of_ports First) of_nodes differ s n m = (refl, refl)
+apart (of_ports Second) of_nodes differ s n m = (refl, refl)
+apart (of_ports First) (of_ports First) differ s n m = absurd (differ refl)
+apart (of_ports First) (of_ports Second) differ s n m = (refl, refl)
+apart (of_ports Second) (of_ports First) differ s n m = (refl, refl)
+apart (of_ports Second) (of_ports Second) differ s n m = absurd (differ refl)
+
+stays_between : (p q : Place) → p ≢ q → (s : Service) (n : RegistryState (Item p))
+    (m : RegistryState (Item q)) → IsBetween s (with_at p s n) (with_at q (with_at p s n) m)
+stays_between of_nodes of_nodes differ s n m at id = absurd (differ refl)
+stays_between of_nodes (of_ports side) differ s n m part.Nodes id = inr refl
+stays_between of_nodes (of_ports side) differ s n m _ id = inl refl
+stays_between (of_ports side) of_nodes differ s n m part.Nodes id = inl refl
+stays_between (of_ports side) of_nodes differ s n m _ id = inr refl
+stays_between (of_ports First) (of_ports First) differ s n m at id = absurd (differ refl)
+stays_between (of_ports First) (of_ports Second) differ s n m part.First id = inr refl
+stays_between (of_ports First) (of_ports Second) differ s n m _ id = inl refl
+stays_between (of_ports Second) (of_ports First) differ s n m part.Second id = inr refl
+stays_between (of_ports Second) (of_ports First) differ s n m _ id = inl refl
+stays_between (of_ports Second) (of_ports Second) differ s n m at id = absurd (differ refl)
 
 -- of steps in two places the second can be made first
-module _ {T U : Type 0} (p : Place T) (q : Place U) (apart : IsApart p q) (back : IsApart q p)
-    (One : RegistryState T → RegistryState T → Type 0)
-    (Two : RegistryState U → RegistryState U → Type 0) (s mid t : Service)
+module _ (p q : Place) (differ : p ≢ q)
+    (One : RegistryState (Item p) → RegistryState (Item p) → Type 0)
+    (Two : RegistryState (Item q) → RegistryState (Item q) → Type 0) (s mid t : Service)
   where
     places_swap : Takes p One s mid → Takes q Two mid t
         → Exchange (Takes p One) (Takes q Two) s mid t
     places_swap a b =
         let n = a.registry in
         let m = b.registry in
-        let left : t ≡ p.put (q.put s m) n =
-        b.left ∙ (ap (λ (x : Service). q.put x m) a.left ∙ apart.swaps s n m) in
+        let back : q ≢ p = λ e. differ (sym e) in
+        let there = apart p q differ s n m in
+        let left : t ≡ with_at p (with_at q s m) n =
+        b.left ∙ (ap (λ (x : Service). with_at q x m) a.left ∙ there.1) in
         record {
-          between = q.put s m;
+          between = with_at q s m;
           before =
               record {
                 registry = m;
-                step = subst (λ (r : RegistryState U). Two r m) (ap q.at a.left ∙ apart.stays s n)
-                    b.step;
+                step = subst (λ (r : RegistryState (Item q)). Two r m)
+                    (ap (registry_at q) a.left ∙ there.0) b.step;
                 whole = b.whole;
                 left = refl;
               };
           after =
               record {
                 registry = n;
-                step = subst (λ (r : RegistryState T). One r n) (sym (back.stays s m)) a.step;
+                step = subst (λ (r : RegistryState (Item p)). One r n)
+                    (sym (apart q p back s m n).0) a.step;
                 whole = a.whole;
                 left = left;
               };
           first = subst (λ (x : Service). IsBetween s mid x) (sym b.left)
-              (subst (λ (x : Service). IsBetween s x (q.put x m)) (sym a.left)
-              (apart.between s n m));
-          second = subst (λ (x : Service). IsBetween s (q.put s m) x) (sym left)
-              (back.between s m n);
+              (subst (λ (x : Service). IsBetween s x (with_at q x m)) (sym a.left)
+              (stays_between p q differ s n m));
+          second = subst (λ (x : Service). IsBetween s (with_at q s m) x) (sym left)
+              (stays_between q p back s m n);
         }
-
--- nodes and ports
-same_ports : (side : Side) (s : Service) (n : RegistryState ℕ)
-    → (ports_at (with_nodes s n) side).registry ≡ (ports_at s side).registry
-same_ports First s n = refl
-same_ports Second s n = refl
-
-nodes_between : (side : Side) (s : Service) (n : RegistryState ℕ) (m : RegistryState PortDetails)
-    → IsBetween s (with_nodes s n) (at_side side (with_nodes s n) m)
-nodes_between side s n m part.Nodes id = inr refl
-nodes_between side s n m _ id = inl refl
-
-ports_between : (side : Side) (s : Service) (n : RegistryState PortDetails) (m : RegistryState ℕ)
-    → IsBetween s (at_side side s n) (with_nodes (at_side side s n) m)
-ports_between side s n m part.Nodes id = inl refl
-ports_between side s n m _ id = inr refl
-
-nodes_apart : (side : Side) → IsApart of_nodes (of_ports side)
-nodes_apart side = record {
-  stays = same_ports side;
-  swaps = λ s n m. refl;
-  between = nodes_between side;
-}
-
-ports_apart : (side : Side) → IsApart (of_ports side) of_nodes
-ports_apart side = record {
-  stays = λ s n. refl;
-  swaps = λ s n m. refl;
-  between = ports_between side;
-}
 
 module _ (Nodes : RegistryState ℕ → RegistryState ℕ → Type 0)
     (Ports : RegistryState PortDetails → RegistryState PortDetails → Type 0) (s mid t : Service)
@@ -205,45 +199,22 @@ module _ (Nodes : RegistryState ℕ → RegistryState ℕ → Type 0)
     pub ports_first : Takes of_nodes Nodes s mid → TakesPorts Ports mid t
         → Exchange (Takes of_nodes Nodes) (TakesPorts Ports) s mid t
     ports_first a (side, b) =
-        let w =
-        places_swap of_nodes (of_ports side) (nodes_apart side) (ports_apart side) Nodes Ports s mid
-        t a b in
+        let w = places_swap of_nodes (of_ports side) (λ e. (cc)) Nodes Ports s mid t a b in
         exchanged w (side, w.before) w.after
 
     pub nodes_first : TakesPorts Ports s mid → Takes of_nodes Nodes mid t
         → Exchange (TakesPorts Ports) (Takes of_nodes Nodes) s mid t
     nodes_first (side, a) b =
-        let w =
-        places_swap (of_ports side) of_nodes (ports_apart side) (nodes_apart side) Ports Nodes s mid
-        t a b in
+        let w = places_swap (of_ports side) of_nodes (λ e. (cc)) Ports Nodes s mid t a b in
         exchanged w w.before (side, w.after)
 
 -- ports of two kinds
-first_between : (s : Service) (n m : RegistryState PortDetails)
-    → IsBetween s (at_side First s n) (at_side Second (at_side First s n) m)
-first_between s n m part.First id = inr refl
-first_between s n m _ id = inl refl
-
-second_between : (s : Service) (n m : RegistryState PortDetails)
-    → IsBetween s (at_side Second s n) (at_side First (at_side Second s n) m)
-second_between s n m part.Second id = inr refl
-second_between s n m _ id = inl refl
-
-sides_apart : (side other : Side) → side ≢ other → IsApart (of_ports side) (of_ports other)
-sides_apart First First differ = absurd (differ refl)
-sides_apart First Second differ =
-    record { stays = λ s n. refl; swaps = λ s n m. refl; between = first_between }
-sides_apart Second First differ =
-    record { stays = λ s n. refl; swaps = λ s n m. refl; between = second_between }
-sides_apart Second Second differ = absurd (differ refl)
-
 module _ (One Two : RegistryState PortDetails → RegistryState PortDetails → Type 0)
     (s mid t : Service) (a : TakesPorts One s mid) (b : TakesPorts Two mid t) where
   pub others_first : a.0 ≢ b.0 → Exchange (TakesPorts One) (TakesPorts Two) s mid t
   others_first differ =
       let w =
-      places_swap (of_ports a.0) (of_ports b.0) (sides_apart a.0 b.0 differ)
-      (sides_apart b.0 a.0 (λ e. differ (sym e))) One Two s mid t a.1 b.1 in
+      places_swap (of_ports a.0) (of_ports b.0) (λ e. differ (cc)) One Two s mid t a.1 b.1 in
       exchanged w (b.0, w.before) (a.0, w.after)
 
   -- steps of handles of two roles are steps of two kinds of ports
@@ -262,32 +233,55 @@ abbrev pub Removal : {T : Type 0} → Handle → ReleaseMode → (ReleaseState �
     → RegistryState T → RegistryState T → Type 0
 Removal h mode May r m = (state : ReleaseState) × May state × RemoveStep r h mode (Ok state) m
 
--- what is put in a place stands there alone; where an entry went, no id came
-record IsPlace {T : Type 0} (p : Place T) : Type 0 where
-  pub there : (s : Service) (n : RegistryState T) → p.at (p.put s n) ≡ n
-  pub again : (s : Service) (n m : RegistryState T) → p.put (p.put s n) m ≡ p.put s m
-  pub loses : (s : Service) (n : RegistryState T) (x : Entry T)
-      → InsertsOne n.entries (p.at s).entries x → LosesIds s (p.put s n)
+-- what is put in a place stands there alone
+there : (p : Place) (s : Service) (n : RegistryState (Item p))
+    → registry_at p (with_at p s n) ≡ n
+there of_nodes s n = refl
+there (of_ports side) s n = its_ports side s n
+
+again : (p : Place) (s : Service) (n m : RegistryState (Item p))
+    → with_at p (with_at p s n) m ≡ with_at p s m
+again of_nodes s n m = refl
+again (of_ports First) s n m = refl
+again (of_ports Second) s n m = refl
+
+-- where an entry went, no id came
+port_lost : (r n : RegistryState PortDetails) (x : Entry PortDetails)
+    → InsertsOne n.entries r.entries x → (id : ℕ) → is_among (port_ids n) id ≡ true
+    → is_among (port_ids r) id ≡ true
+port_lost r n x g id e =
+    in_whole (λ (l : List (Entry PortDetails)). is_among (port_ids (record r { entries = l })) id)
+    (λ x. port_value (port_of x.details) == id) (λ x l. refl) n.entries r.entries x g e
+
+loses : (p : Place) (s : Service) (n : RegistryState (Item p)) (x : Entry (Item p))
+    → InsertsOne n.entries (registry_at p s).entries x → LosesIds s (with_at p s n)
+loses of_nodes s n x g part.Nodes id e =
+    in_whole (λ (l : List (Entry ℕ)). is_among (map (λ x. x.details) l) id)
+    (λ x. x.details == id) (λ x l. refl) n.entries s.nodes.registry.entries x g e
+loses of_nodes s n x g _ id e = e
+loses (of_ports First) s n x g part.First id e = port_lost s.ports.first.registry n x g id e
+loses (of_ports First) s n x g _ id e = e
+loses (of_ports Second) s n x g part.Second id e = port_lost s.ports.second.registry n x g id e
+loses (of_ports Second) s n x g _ id e = e
 
 -- of two removals from one place the second can be made first
-module _ {T : Type 0} (p : Place T) (is : IsPlace p) (mode : ReleaseMode)
-    (May : ReleaseState → Type 0) where
+module _ (p : Place) (mode : ReleaseMode) (May : ReleaseState → Type 0) where
   loss : (h : Handle) (s t : Service) → Takes p (Removal h mode May) s t → LosesIds s t
   loss h s t a =
       subst (λ (x : Service). LosesIds s x) (sym a.left)
-      (is.loses s a.registry a.step.2.0.0 a.step.2.0.2)
+      (loses p s a.registry a.step.2.0.0 a.step.2.0.2)
 
-  removals_swap : (h k : Handle) (s mid t : Service) → IsRegistry (p.at s)
+  pub removals_swap : (h k : Handle) (s mid t : Service) → IsRegistry (registry_at p s)
       → Takes p (Removal h mode May) s mid → Takes p (Removal k mode May) mid t
       → Exchange (Takes p (Removal h mode May)) (Takes p (Removal k mode May)) s mid t
   removals_swap h k s mid t whole a b =
       let n = a.registry in
       let m = b.registry in
-      let there : p.at mid ≡ n = ap p.at a.left ∙ is.there s n in
+      let now : registry_at p mid ≡ n = ap (registry_at p) a.left ∙ there p s n in
       let w =
-      entries_swap (p.at s) n m h k mode a.step.0 b.step.0 whole a.step.2
-      (subst (λ (r : RegistryState T). RemoveStep r k mode (Ok b.step.0) m) there b.step.2) in
-      let x = p.put s w.mid in
+      entries_swap (registry_at p s) n m h k mode a.step.0 b.step.0 whole a.step.2
+      (subst (λ (r : RegistryState (Item p)). RemoveStep r k mode (Ok b.step.0) m) now b.step.2) in
+      let x = with_at p s w.mid in
       let before : Takes p (Removal k mode May) s x = record {
         registry = w.mid;
         step = (a.step.0, a.step.1, w.before);
@@ -299,13 +293,13 @@ module _ {T : Type 0} (p : Place T) (is : IsPlace p) (mode : ReleaseMode)
         step = (
           b.step.0,
           b.step.1,
-          subst (λ (r : RegistryState T). RemoveStep r h mode (Ok b.step.0) m)
-              (sym (is.there s w.mid)) w.after,
+          subst (λ (r : RegistryState (Item p)). RemoveStep r h mode (Ok b.step.0) m)
+              (sym (there p s w.mid)) w.after,
         );
         whole = b.whole;
         left = b.left
-            ∙ (ap (λ (v : Service). p.put v m) a.left
-            ∙ (is.again s n m ∙ sym (is.again s w.mid m)));
+            ∙ (ap (λ (v : Service). with_at p v m) a.left
+            ∙ (again p s n m ∙ sym (again p s w.mid m)));
       } in
       record {
         between = x;
@@ -314,41 +308,6 @@ module _ {T : Type 0} (p : Place T) (is : IsPlace p) (mode : ReleaseMode)
         first = loses_between s mid t (loss h s mid a) (loss k mid t b);
         second = loses_between s x t (loss k s x before) (loss h x t after);
       }
-
-nodes_lose : (s : Service) (n : RegistryState ℕ) (x : Entry ℕ)
-    → InsertsOne n.entries s.nodes.registry.entries x → LosesIds s (with_nodes s n)
-nodes_lose s n x g part.Nodes id e =
-    in_whole (λ (l : List (Entry ℕ)). is_among (map (λ x. x.details) l) id)
-    (λ x. x.details == id) (λ x l. refl) n.entries s.nodes.registry.entries x g e
-nodes_lose s n x g _ id e = e
-
-port_lost : (r n : RegistryState PortDetails) (x : Entry PortDetails)
-    → InsertsOne n.entries r.entries x → (id : ℕ) → is_among (port_ids n) id ≡ true
-    → is_among (port_ids r) id ≡ true
-port_lost r n x g id e =
-    in_whole (λ (l : List (Entry PortDetails)). is_among (port_ids (record r { entries = l })) id)
-    (λ x. port_value (port_of x.details) == id) (λ x l. refl) n.entries r.entries x g e
-
-ports_lose : (side : Side) (s : Service) (n : RegistryState PortDetails) (x : Entry PortDetails)
-    → InsertsOne n.entries (ports_at s side).registry.entries x → LosesIds s (at_side side s n)
-ports_lose First s n x g part.First id e = port_lost s.ports.first.registry n x g id e
-ports_lose Second s n x g part.Second id e = port_lost s.ports.second.registry n x g id e
-ports_lose First s n x g _ id e = e
-ports_lose Second s n x g _ id e = e
-
-pub nodes_swap : (May : ReleaseState → Type 0) (mode : ReleaseMode) (h k : Handle)
-    (s mid t : Service) → IsService s → Takes of_nodes (Removal h mode May) s mid
-    → Takes of_nodes (Removal k mode May) mid t
-    → Exchange (Takes of_nodes (Removal h mode May)) (Takes of_nodes (Removal k mode May)) s mid t
-nodes_swap May mode h k s mid t i a b =
-    let is : IsPlace of_nodes =
-    record { there = λ s n. refl; again = λ s n m. refl; loses = nodes_lose } in
-    removals_swap of_nodes is mode May h k s mid t i.nodes_are a b
-
-put_again : (side : Side) (s : Service) (n m : RegistryState PortDetails)
-    → at_side side (at_side side s n) m ≡ at_side side s m
-put_again First s n m = refl
-put_again Second s n m = refl
 
 side_cases : (side other : Side) → (side ≡ other) ⊎ (side ≢ other)
 side_cases First First = inl refl
@@ -362,13 +321,8 @@ pub ports_swap : (May : ReleaseState → Type 0) (mode : ReleaseMode) (h k : Han
     → Exchange (TakesPorts (Removal h mode May)) (TakesPorts (Removal k mode May)) s mid t
 ports_swap May mode h k s mid t i (side, a) (other, b) = elim (side_cases side other) [
   | inl same ↦
-      let is : IsPlace (of_ports side) = record {
-        there = its_ports side;
-        again = put_again side;
-        loses = ports_lose side;
-      } in
       let w =
-      removals_swap (of_ports side) is mode May h k s mid t (ports_are s side i).is_registry a
+      removals_swap (of_ports side) mode May h k s mid t (ports_are s side i).is_registry a
       (subst (λ (q : Side). Takes (of_ports q) (Removal k mode May) mid t) (sym same) b) in
       exchanged w (side, w.before) (side, w.after)
   | inr differ ↦ others_first (Removal h mode May) (Removal k mode May) s mid t (side, a) (other, b)

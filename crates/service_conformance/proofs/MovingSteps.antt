@@ -1,16 +1,19 @@
 -- What calls that were answered do, by what they change.
-use Rattle.service_conformance.proofs.Names.{All, All-head, All-tail, Err, List, None, Ok, Option, Result, Some, [], ap, arith, eq-eqb, eqb-true, false, false_from_ne_true, inl, inr, ltb-true, nat_eq, nat_lt, ne_eqb, or_cases, refl, same_Some, subst, suc, sym, true, zero, ℕ, Bool, ◌&&◌, ◌<◌, ◌∙◌, ◌∷◌, ◌≡◌, AddStep, Adds, Call, CallStep, Change, Changes, Command, ContainerHandleNotOwnedByContainer, ContainerRemoveError, Default, Entry, First, Handle, HasEntry, HasWords, InsertsOne, IsChange, IsRegistry, IsService, LockIfLastIndex, OnSide, PortDetails, Registered, RegistryState, ReleaseState, RemoveStep, RemovesPort, Reply, Role, Second, Serves, ServesAdd, ServesDeregister, ServesRegister, ServesRelease, Service, Side, Unlocked, entries_of_node, first_role, handle_in, handle_words, has_ports_of, is_last_of_ports, is_of, named, node_of, ports_at, quiet, role_at, role_of, second_role, text_of, untouched, word_text}
+use Rattle.service_conformance.proofs.Names.{All, All-head, All-tail, Err, List, None, Ok, Option, Result, Some, [], ap, arith, eq-eqb, eqb-true, false, false_from_ne_true, inl, inr, ltb-true, nat_eq, nat_lt, ne_eqb, or_cases, refl, same_Some, subst, suc, sym, true, zero, ℕ, Bool, ◌&&◌, ◌<◌, ◌∙◌, ◌∷◌, ◌≡◌, AddStep, Call, CallStep, Change, Command, ContainerHandleNotOwnedByContainer, ContainerRemoveError, Default, Entry, Handle, HasEntry, HasWords, InsertsOne, IsChange, IsService, LockIfLastIndex, PortDetails, Registered, RegistryState, ReleaseState, RemoveStep, RemovesPort, Reply, Role, Serves, ServesAdd, ServesDeregister, ServesRegister, ServesRelease, Service, Unlocked, entries_of_node, handle_in, handle_words, has_ports_of, is_last_of_ports, is_of, named, node_of, ports_at, quiet, role_at, role_of, text_of, word_text, container}
 use Rattle.iox2_container.proofs.Counting.{counted, counted-InsertsOne, counted-cons, one_if}
 use Rattle.iox2_container.proofs.Lists.{All-back}
-use Rattle.iox2_dynamic.proofs.Keeping.{leaving_kept, register_kept, attach_kept, release_kept}
-use Rattle.iox2_dynamic.specs.Steps.{AttachStep}
+use Rattle.iox2_dynamic.proofs.Keeping.{leaving_kept}
 use Rattle.service_descriptions.specs.declared.replay.machine.command.Command.TheVariants as command
 use Rattle.service_descriptions.specs.declared.replay.machine.reply.Reply.TheVariants as reply
 use Rattle.service_conformance.specs.declared.conformance.mover.Change.TheVariants as change
 use Rattle.service_conformance.specs.declared.conformance.seen_reply.ReplyWord.TheVariants as word
-use Rattle.service_conformance.proofs.Taking.{its_ports, Takes, TakesPorts, at_side, nodes_taken, of_nodes, ports_taken, has_role, ports_are}
+use Rattle.service_conformance.proofs.Taking.{given_at, its_ports, Takes, TakesPorts, nodes_taken, ports_taken, ports_are}
+use Rattle.service_conformance.proofs.Taking.Place.{of_nodes}
 use Rattle.service_conformance.proofs.MovingParts.{Removal}
+use Rattle.service_conformance.proofs.Following.{attach_enters, register_enters, release_goes}
+use Rattle.service_conformance.proofs.Possibles.{attaches, registers, released}
 use Rattle.service_conformance.proofs.Quiet.{service_quiet, untouching}
+use Rattle.service_conformance.proofs.Registries.{remove_once, was_given}
 use Rattle.service_conformance.proofs.Seen.{is_handle, is_named, no_handle_text}
 use Rattle.service_conformance.proofs.Looking.{by_cases}
 
@@ -98,13 +101,13 @@ not_last false some e = refl
 not_last true false e = refl
 not_last true true e = e refl
 
--- a step leads to a service of which no touch is counted
-abbrev LeadsThere : (Service → Type 0) → Service → Type 0
-LeadsThere Step t = Step t × IsService t × (quiet t ≡ t)
+-- a step leads to a service that is seen as this one
+abbrev LeadsBy : (Service → Type 0) → Service → Type 0
+LeadsBy Step t = (mid : Service) × Step mid × IsService mid × (quiet mid ≡ t)
 
 module _ (s : Service) (i : IsService s) (h : Handle) (t : Service) where
   node_goes : Takes of_nodes (NodeRemoval h) s t → Fits change.NodeRemoved s t
-      → LeadsThere (ServesDeregister (quiet s) (Some h) reply.HasOwners) t
+      → LeadsBy (ServesDeregister s (Some h) reply.HasOwners) t
   node_goes a fits =
       let r = s.nodes.registry in
       let n : RegistryState ℕ = a.registry in
@@ -125,77 +128,60 @@ module _ (s : Service) (i : IsService s) (h : Handle) (t : Service) where
         one,
         counted-InsertsOne (is_of (λ (q : ℕ). q) id) n.entries r.entries x step.0.2,
       ))) in
-      subst (LeadsThere (ServesDeregister (quiet s) (Some h) reply.HasOwners)) (sym a.left) (
-        (id, has, more, untouching _ (untouched r) n step a.whole, refl),
-        leaving_kept (quiet s) (untouched n) h id has more step.0 a.whole (service_quiet s i),
-        refl,
+      let nodes = container n s.nodes.touches in (
+        record s { nodes = nodes },
+        (id, has, more, untouching _ s.nodes n step a.whole, refl),
+        leaving_kept s nodes h id has more step.0 a.whole i,
+        sym a.left,
       )
 
   node_comes : (id : ℕ) → Takes of_nodes (Addition id h) s t
-      → LeadsThere (ServesRegister (quiet s) id (reply.Handle h)) t
+      → LeadsBy (ServesRegister s id (reply.Handle h)) t
   node_comes id a =
-      let adds : Adds (untouched s.nodes.registry) id (Ok h) (untouched a.registry) =
-      untouching _ (untouched s.nodes.registry) a.registry a.step a.whole in
-      subst (LeadsThere (ServesRegister (quiet s) id (reply.Handle h))) (sym a.left) (
-        (adds, refl),
-        register_kept (quiet s) (untouched a.registry) id (Ok h) adds (service_quiet s i),
-        refl,
+      let may = was_given s.nodes.registry a.registry id h a.step a.whole in
+      let can =
+      (registers s id None i (a.step.0, a.step.1)).can (reply.Handle h) (h, refl, may) in (
+        can.0,
+        can.1,
+        can.2,
+        (register_enters s id h can a.registry a.step a.whole).0 can.0 can.1 ∙ sym a.left,
       )
 
-  module _ (Step : RegistryState PortDetails → RegistryState PortDetails → Type 0) (role : Role)
-    where
-      on_side : (side : Side) (m : RegistryState PortDetails) → role ≡ role_at s.pattern side
-          → Step (ports_at s side).registry m → IsRegistry m
-          → OnSide (first_role s.pattern) (second_role s.pattern) (quiet s).ports role
-          (λ o n. Changes Step o n) (at_side side s m).ports
-      on_side First m e step k = record {
-        side = First;
-        role_is = e;
-        step = untouching Step (untouched s.ports.first.registry) m step k;
-        others = refl;
-      }
-      on_side Second m e step k = record {
-        side = Second;
-        role_is = e;
-        step = untouching Step (untouched s.ports.second.registry) m step k;
-        others = refl;
-      }
-
   port_goes : TakesPorts (PortRemoval h) s t
-      → LeadsThere (ServesRelease (quiet s) (Some h) reply.Released) t
+      → LeadsBy (ServesRelease s (Some h) reply.Released) t
   port_goes (side, a) =
       let at : h.role ≡ role_at s.pattern side =
       ap (λ (q : Handle). q.role) a.step.2.0.1 ∙ (ports_are s side i).role_is in
-      let state = a.step.0 in
-      let goes =
-      on_side (λ r m. RemoveStep r h Default (Ok state) m) h.role side a.registry at a.step.2
-      a.whole in
-      subst (LeadsThere (ServesRelease (quiet s) (Some h) reply.Released)) (sym a.left) (
-        (state, (inl goes, refl)),
-        release_kept (quiet s) s.pattern (at_side side s a.registry).ports h (Ok state) refl
-            (inl goes) (service_quiet s i),
-        refl,
-      )
+      let step = a.step.2 in
+      let x : Entry PortDetails = step.0.0 in
+      let has : HasEntry (ports_at s side).registry h x.details =
+      (x, step.0.1, refl, (a.registry.entries, step.0.2)) in
+      let can = (released s h side at x.details has i).can reply.Released refl in
+      let leads =
+      release_goes s h side at a.registry (λ state new gone.
+      remove_once (ports_at s side).registry new a.registry h Default state a.step.0
+      (ports_are s side i).is_registry gone step) reply.Released refl in
+      (can.0, can.1, can.2, leads can.0 can.1 ∙ sym a.left)
 
   port_comes : (d : PortDetails) → h.role ≡ role_of d → TakesPorts (Addition d h) s t
       → 0 < entries_of_node (node_of d) s.nodes.registry
-      → LeadsThere (ServesAdd (quiet s) d (reply.Handle h)) t
+      → LeadsBy (ServesAdd s d (reply.Handle h)) t
   port_comes d role (side, a) some =
       let at : role_of d ≡ role_at s.pattern side =
       sym role ∙ (ap (λ (q : Handle). q.role) a.step.2.0 ∙ (ports_are s side i).role_is) in
-      let comes =
-      on_side (λ r m. AddStep r d (Ok h) m) (role_of d) side a.registry at a.step a.whole in
       let is_open : s.nodes.registry.locked ≡ false =
       false_from_ne_true s.nodes.registry.locked (λ e.
       let none : entries_of_node (node_of d) s.nodes.registry ≡ 0 =
       ap (counted (is_of (λ (q : ℕ). q) (node_of d))) (i.nodes_are.locked_is_empty e) in
       omega (arith, some, none)) in
-      let attaches : AttachStep (quiet s) d (Ok h) (at_side side s a.registry) =
-      ((is_open, some), (comes, refl)) in
-      subst (LeadsThere (ServesAdd (quiet s) d (reply.Handle h))) (sym a.left) (
-        (has_role s.pattern side (role_of d) at, attaches),
-        attach_kept (quiet s) (at_side side s a.registry) d (Ok h) attaches (service_quiet s i),
-        refl,
+      let may = was_given (ports_at s side).registry a.registry d h a.step a.whole in
+      let can =
+      (attaches s d side at (is_open, some) None i (a.step.0, a.step.1)).can (reply.Handle h)
+      (h, refl, given_at s side h may) in (
+        can.0,
+        can.1,
+        can.2,
+        (attach_enters s d side h at can a.registry a.step a.whole).0 can.0 can.1 ∙ sym a.left,
       )
 
 -- what the steps of a service do
@@ -259,7 +245,7 @@ module _ (own : Command) (handle : Option Handle) (words : List ℕ) (May : Hand
       → ServesOwn old r mid → (h : Handle) × May h × Step h old (quiet mid))
       → ((h : Handle) → May h → (r : Reply) × (text_of r ≡ words)
       × ((old new : Service) → IsService old → Step h old new → Fits old new
-      → LeadsThere (ServesOwn (quiet old) r) new))
+      → LeadsBy (ServesOwn old r) new))
       → (c : Call) → c.command ≡ own → c.handle ≡ handle → c.words ≡ Some words
       → Does c May Fits Step
   does_own there back c e f g =
@@ -271,21 +257,7 @@ module _ (own : Command) (handle : Option Handle) (words : List ℕ) (May : Hand
             let got = there step.2.0 step.2.1 old on.0 step.0 on.1 in
             (got.0, got.1, subst (λ (x : Service). Step got.0 old x) on.3 got.2);
         back = λ h may old new i rest a fits.
-            let r = back h may in
-            let leads = r.2 old new i a fits in (
-              i,
-              rest,
-              (
-                r.0,
-                r.1,
-                (
-                  new,
-                  subst (λ (s : Service). ServesOwn s r.0 new) rest leads.0,
-                  leads.1,
-                  leads.2,
-                ),
-              ),
-            );
+            let r = back h may in (i, rest, (r.0, r.1, r.2 old new i a fits));
       })
 
 -- a reply with the words of a handle is that of one
@@ -325,11 +297,8 @@ does change.NodeRemoved c is =
       reply.HasOwners,
       refl,
       λ old new i a fits.
-          let goes = node_goes old i h new a fits in (
-            subst (λ o. ServesDeregister (quiet old) o reply.HasOwners new) (sym e) goes.0,
-            goes.1,
-            goes.2,
-          ),
+          subst (λ o. LeadsBy (ServesDeregister old o reply.HasOwners) new) (sym e)
+          (node_goes old i h new a fits),
     )) c is.0.1 refl is.1
 does (change.PortRemoved role) c is =
     let o = named (c.handle ∷ []) is.0.0 in
@@ -343,11 +312,8 @@ does (change.PortRemoved role) c is =
       reply.Released,
       refl,
       λ old new i a fits.
-          let goes = port_goes old i h new a in (
-            subst (λ o. ServesRelease (quiet old) o reply.Released new) (sym e.0) goes.0,
-            goes.1,
-            goes.2,
-          ),
+          subst (λ o. LeadsBy (ServesRelease old o reply.Released) new) (sym e.0)
+          (port_goes old i h new a),
     )) c is.0.1 refl is.2
 does (change.NodeRegistered id) c is =
     let words = handle_words is.1.0 is.1.1 in

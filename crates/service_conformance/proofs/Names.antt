@@ -69,7 +69,7 @@ pub use Rattle.service_conformance.specs.Judged.Judged.{call, stops}
 pub use Rattle.service_conformance.specs.Laws.{IsThere, WeakListingsSeeEnough, looks_through}
 pub use Rattle.service_conformance.specs.Looks.{IsWatched, Look, Watched, ids_in, is_among, lacking, look_after, look_of, looks_after, port_ids, unwatched, watched, without}
 pub use Rattle.service_conformance.specs.Movers.{ChangesAt, IsChange, CanPrecede, MovesBeforeCall}
-pub use Rattle.service_conformance.specs.Possible.{Allows, ArePossible, IsCovered, MayGiveIn, possible_add, reply_in, reply_named, reply_of_owners}
+pub use Rattle.service_conformance.specs.Possible.{Allows, ArePossible, MayGiveIn, possible_add, reply_in, reply_named, reply_of_owners}
 pub use Rattle.service_conformance.specs.Quiet.{CanServe, LeadsTo, Reports, at_rest, is_removal, ports_at_rest, quiet, quiet_state, untouched}
 pub use Rattle.service_conformance.specs.Seen.{EndsWord, IsToLine, changes_nothing, count_words, list_words, printed_id, seen_text, word_text}
 pub use Rattle.service_conformance.specs.ServiceFields.{service_of}

@@ -9,7 +9,8 @@ use Rattle.service_conformance.specs.declared.conformance.possible.Possible.TheV
 use Rattle.service_conformance.proofs.Registries.{can_give, no_room, was_given, can_remove}
 use Rattle.service_conformance.proofs.Quiet.{untouching}
 use Rattle.iox2_dynamic.specs.declared.dynamic_config.answers.AttachError.TheVariants as refusal
-use Rattle.service_conformance.proofs.Taking.{given_at, has_role, lacks, may_give_at, ports_are, steps_at, Takes, of_ports, taken_at}
+use Rattle.service_conformance.proofs.Taking.{given_at, has_role, lacks, may_give_at, ports_are, steps_at, Takes, taken_at}
+use Rattle.service_conformance.proofs.Taking.Place.{of_ports}
 use Rattle.iox2_container.specs.declared.container.registry.ReleaseState.TheVariants as state
 use Rattle.iox2_container.proofs.Lists.{length-InsertsOne, one_by_ticket}
 use Rattle.iox2_container.proofs.Keeping.{not_foreign}
@@ -111,7 +112,7 @@ module _ (s : Service) (d : PortDetails) where
   module _ (side : Side) (role : role_of d ≡ role_at s.pattern side)
       (opens : IsOpenFor s (node_of d)) where
     -- the add to the registry of the side
-    adds_at : (answer : Result Handle ContainerAddFailure) (new : Service)
+    pub adds_at : (answer : Result Handle ContainerAddFailure) (new : Service)
         → AddsPort s d answer new
         → Takes (of_ports side) (λ r m. AddStep r d answer m) s (quiet new)
     adds_at answer new a = taken_at _ (role_of d) s new a.0 a.1 side role
@@ -308,7 +309,7 @@ module _ (s : Service) (h : Handle) where
 module _ (s : Service) (h : Handle) where
   module _ (side : Side) (role : h.role ≡ role_at s.pattern side) where
     -- the removal from the registry of the side
-    removes_at : (answer : Result ReleaseState ContainerRemoveError) (new : Service)
+    pub removes_at : (answer : Result ReleaseState ContainerRemoveError) (new : Service)
         → RemovesPort s h answer new
         → Takes (of_ports side) (λ r m. RemoveStep r h Default answer m) s (quiet new)
     removes_at answer new (inl a, e) = taken_at _ h.role s new a e side role

@@ -50,16 +50,17 @@ steps_at p First old role Step new e s =
 steps_at p Second old role Step new e s =
     record { side = Second; role_is = e; step = s; others = refl }
 
--- a registry of a service: where it stands, and the service with another one there
-pub record Place (T : Type 0) : Type 0 where
-  pub at : Service → RegistryState T
-  pub put : Service → RegistryState T → Service
+-- a registry of a service: that of its nodes, or of one kind of its ports
+pub data Place : Type 0 where
+  of_nodes : Place
+  of_ports : Side → Place
+
+abbrev pub Item : Place → Type 0
+Item of_nodes = ℕ
+Item (of_ports side) = PortDetails
 
 abbrev pub with_nodes : Service → RegistryState ℕ → Service
 with_nodes s nodes = at_rest s.pattern nodes s.ports.first.registry s.ports.second.registry
-
-abbrev pub of_nodes : Place ℕ
-of_nodes = record { at = λ (s : Service). s.nodes.registry; put = with_nodes }
 
 -- a service with another registry of one kind of ports
 abbrev pub at_side : Side → Service → RegistryState PortDetails → Service
@@ -73,16 +74,22 @@ pub its_ports : (side : Side) (s : Service) (n : RegistryState PortDetails)
 its_ports First s n = refl
 its_ports Second s n = refl
 
-abbrev pub of_ports : Side → Place PortDetails
-of_ports side = record { at = λ (s : Service). (ports_at s side).registry; put = at_side side }
+-- the registry in a place, and the service with another one there
+abbrev pub registry_at : (p : Place) → Service → RegistryState (Item p)
+registry_at of_nodes s = s.nodes.registry
+registry_at (of_ports side) s = (ports_at s side).registry
+
+abbrev pub with_at : (p : Place) → Service → RegistryState (Item p) → Service
+with_at of_nodes s r = with_nodes s r
+with_at (of_ports side) s r = at_side side s r
 
 -- the registry in a place takes a step
-pub record Takes {T : Type 0} (p : Place T) (Step : RegistryState T → RegistryState T → Type 0)
+pub record Takes (p : Place) (Step : RegistryState (Item p) → RegistryState (Item p) → Type 0)
     (s t : Service) : Type 0 where
-  pub registry : RegistryState T
-  pub step : Step (p.at s) registry
+  pub registry : RegistryState (Item p)
+  pub step : Step (registry_at p s) registry
   pub whole : IsRegistry registry
-  pub left : t ≡ p.put s registry
+  pub left : t ≡ with_at p s registry
 
 -- the ports of one kind take a step
 abbrev pub TakesPorts : (RegistryState PortDetails → RegistryState PortDetails → Type 0) → Service

@@ -1,11 +1,10 @@
 -- What words tell.
-use Rattle.service_conformance.proofs.Names.{All-map, List, None, Option, Some, [], ap, append-nil, append_assoc, append_cancel_left, arith, codes, decimal, decimal_injective, map, refl, subst, sym, ℕ, ◌++◌, ◌+◌, ◌<◌, ◌^◌, ◌∙◌, ◌∷◌, ◌≡◌, ◌≢◌, get_or-map, length-map, false, inl, inr, ◌⊎◌, AllowsWords, ArePossible, ArePossibleWords, Bytes, EndsNumber, Entry, Handle, IsCovered, IsNextHandle, IsNextIn, IsSameReply, MayGive, MayGiveIn, NextHandle, Part, RegistryState, Reply, Request, Service, Spelling, ReadsReplyHandle, after, cons_same, handle_words, line_end, number_one, request_command, sequence, text_of, handle_in, is_removal, All}
+use Rattle.service_conformance.proofs.Names.{All-map, List, None, Option, Some, [], ap, append-nil, append_assoc, append_cancel_left, arith, codes, decimal, decimal_injective, map, refl, subst, sym, ℕ, ◌++◌, ◌+◌, ◌<◌, ◌^◌, ◌∙◌, ◌∷◌, ◌≡◌, ◌≢◌, get_or-map, length-map, false, inl, inr, ◌⊎◌, AllowsWords, ArePossible, ArePossibleWords, Bytes, EndsNumber, Entry, Handle, IsNextHandle, IsNextIn, IsSameReply, MayGive, MayGiveIn, NextHandle, Part, RegistryState, Reply, Service, Spelling, ReadsReplyHandle, after, cons_same, handle_words, line_end, number_one, sequence, text_of, handle_in, is_removal, All}
 use Rattle.service_descriptions.specs.declared.replay.machine.reply.Reply.TheVariants as reply
 use Rattle.service_descriptions.proofs.Lines.{any_fits, any_number}
 use Rattle.service_conformance.specs.declared.conformance.possible.Part.TheVariants as part
 use Rattle.service_conformance.specs.declared.conformance.possible.Possible.TheVariants as possible
 use Rattle.service_conformance.specs.declared.conformance.possible.PossibleReplies.TheVariants as replies
-use Rattle.service_conformance.specs.declared.conformance.request.Request.TheVariants as request
 
 -- the text of a handle: its slot, a space, and the rest
 spaced : (slot ticket : ℕ) → codes "handle " ++ decimal slot ++ codes " " ++ decimal ticket
@@ -177,8 +176,3 @@ pub neither : (Has : Option Handle → Type 0) → ¬ (Has None) → ((h : Handl
     → (h : Option Handle) → ¬ (Has h)
 neither Has none some None = none
 neither Has none some (Some h) = some h
-
--- a command that was called is one whose replies are known
-pub request_covered : (a : Request) → IsCovered (request_command a)
-request_covered (request.Register id) = tt
-request_covered _ = tt

@@ -1,7 +1,6 @@
 -- The replies that a run could give.
 use Rattle.std.specs.Prelude.{◌≡◌, Bool, None, Option, Some, false, true}
-use Rattle.service_conformance.specs.Prelude.{ByPort, Command, ContainerAddFailure, Handle, IsLocked, IsSameReply, IsService, OutOfSpace, Reply, Service}
-use Rattle.service_descriptions.specs.declared.replay.machine.command.Command.TheVariants as command
+use Rattle.service_conformance.specs.Prelude.{ContainerAddFailure, Handle, IsLocked, IsSameReply, IsService, OutOfSpace, Reply, Service}
 use Rattle.service_descriptions.specs.declared.replay.machine.reply.Reply.TheVariants as reply
 use Rattle.service_conformance.specs.declared.conformance.line_reply.LineReply.{LineReply}
 use Rattle.service_conformance.specs.declared.conformance.line_reply.LineReply.TheVariants as line
@@ -61,15 +60,3 @@ possible_add (Some OutOfSpace) in_part = possible.One (line.Word word.Full)
 abbrev pub reply_of_owners : Bool → LineReply
 reply_of_owners true = line.Word word.NoMoreOwners
 reply_of_owners false = line.Word word.HasOwners
-
--- a command whose possible replies are known
-abbrev pub IsCovered : Command → Type 0
-IsCovered (command.Register id) = Unit {0}
-IsCovered (command.Deregister k) = Unit {0}
-IsCovered command.Nodes = Unit {0}
-IsCovered (command.Add details) = Unit {0}
-IsCovered (command.Release k) = Unit {0}
-IsCovered (command.List role) = Unit {0}
-IsCovered (command.Count role) = Unit {0}
-IsCovered (command.Dead dead (ByPort kept)) = Unit {0}
-IsCovered _ = ⊥

@@ -6,7 +6,7 @@ ghost use Rattle.service_conformance.specs.Calls.{AreGivenBelow, AreRepliesOf, C
 ghost use Rattle.service_conformance.specs.Calls.{IsIdleCall, ServesCall};
 ghost use Rattle.service_conformance.specs.Calls.{answered, call_of, command_adds};
 ghost use Rattle.service_conformance.specs.Movers.{IsChange};
-ghost use Rattle.service_conformance.specs.Possible.{ArePossible, IsCovered, reply_in};
+ghost use Rattle.service_conformance.specs.Possible.{ArePossible, reply_in};
 ghost use Rattle.service_conformance.specs.Quiet.{CanServe, LeadsTo, quiet};
 ghost use Rattle.service_conformance.specs.Seen.{changes_nothing, seen_text};
 ghost use Rattle.iox2_dynamic.specs.Service.{IsService, Service};
@@ -91,11 +91,9 @@ impl SeenCall {
     }
 
     /// The replies that the call may have in this state.
-    #[tactic(auto, using(crate::proofs::Words::request_covered))]
     #[inline(always)]
     fn possible(&self, alloc: Global, state: &ServiceCheck) -> Result<Possible, AllocError>
         ensures possible { IfOk result (ArePossible state.now (ServesCall self.now state.now)) }
-        ensures covered { IsCovered self.now.command }
         ensures kept { IsService state.now }
         ensures rest { quiet state.now ≡ state.now }
     {
@@ -153,7 +151,6 @@ impl SeenCall {
         slot: usize,
         found: &mut Vec<ServiceCheck>,
     ) -> Result<(), AllocError>
-        requires covered { IsCovered self.now.command }
         requires all { ArePossible state.now (ServesCall self.now state.now) (possible.Given part) }
         ensures { OnOk result (AreGivenBelow self.now state.now part slot found.old.items
             → AreGivenBelow self.now state.now part (slot + 1) found.new.items) }
@@ -175,7 +172,6 @@ impl SeenCall {
         part: Part,
     ) -> Result<Vec<ServiceCheck>, AllocError>
         requires words { self.now.words ≡ None }
-        requires covered { IsCovered self.now.command }
         requires all { ArePossible state.now (ServesCall self.now state.now) (possible.Given part) }
         ensures { IfOk result (λ found. AreEnough (CallStep self.now state.now) found.items) }
     {

@@ -1,13 +1,9 @@
-use Rattle.service_conformance.proofs.Names.{Some, refl, subst, sym, ◌∙◌, ◌≡◌, IsCovered, seen_text}
+use Rattle.service_conformance.proofs.Names.{Some, refl, sym, ◌∙◌, ◌≡◌, seen_text}
 use Rattle.service_conformance.proofs.Calls.{changes_none}
-use Rattle.service_conformance.proofs.Words.{request_covered}
 use Rattle.service_conformance.proofs.conformance.seen_call.SeenCall.changes_nothing.Goals as goal
 
 pub returns : goal.returns
 returns c t =
     let has : c.args.self.now.words ≡ Some (seen_text c.in-Some.seen) =
     rw (← c.self.view_is, c.in-Some.is) refl in
-    changes_none c.args.self.now
-    (subst (λ call. IsCovered call.command) c.self.view_is
-    (request_covered c.self.inside.request)) c.in-Some.seen has
-    (sym c.changes_nothing.ensures ∙ t)
+    changes_none c.args.self.now c.in-Some.seen has (sym c.changes_nothing.ensures ∙ t)

@@ -6,7 +6,7 @@ pub returns : goal.returns
 returns c =
     let possible = c.in_ok-possible.ensures in
     enough (CallStep c.args.self.now c.args.state.now) (c.in_ok-state_after.field-0 ∷ [])
-    (seen_one c.args.self.now c.args.state.now possible.kept possible.rest possible.covered
+    (seen_one c.args.self.now c.args.state.now possible.kept possible.rest
     c.in_ok-possible.possible (seen_text c.in-Some.seen.now) c.in-Some.ensures.some
     possible.possible (reply_in c.in-Some-reply_seen.reply) c.in_ok-state_after.field-0
     c.in-Some-reply_seen.ensures c.in_ok-state_after.ensures)

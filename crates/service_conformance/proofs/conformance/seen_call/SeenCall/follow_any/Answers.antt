@@ -7,6 +7,6 @@ returns-in_ok-state_after-in-One c =
     let possible = c.in_ok-reply.ensures in
     enough (CallStep c.args.self.now c.args.state.now)
     (c.in_ok-state_after-in-One.field-0 ∷ [])
-    (any_one c.args.self.now c.args.state.now possible.kept possible.rest possible.covered
+    (any_one c.args.self.now c.args.state.now possible.kept possible.rest
     c.requires c.in-One.reply c.in_ok-state_after-in-One.field-0
     (rw c.in-One.is at possible.possible) c.in_ok-state_after-in-One.ensures)

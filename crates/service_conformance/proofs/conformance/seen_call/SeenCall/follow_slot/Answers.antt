@@ -14,5 +14,5 @@ returns c all =
     let given = c.in-Some.ensures.some in
     rw c.in_ok-push.ensures.items
     (slot_given c.args.self.now c.args.state.now c.args.part c.args.slot c.args.found.now.items h
-    c.in_ok-next.next c.requires.covered given.0 given.1
+    c.in_ok-next.next given.0 given.1
     (c.requires.all.can (reply.Handle h) (h, refl, given.1)) c.in_ok-next.ensures all)

@@ -5,7 +5,7 @@ use Rattle.service_conformance.proofs.conformance.seen_call.SeenCall.make.Goals 
 pub returns : goal.returns
 returns c =
     let possible = c.in_ok-possible.ensures in
-    seen_one c.args.self.now c.args.state.now possible.kept possible.rest possible.covered
+    seen_one c.args.self.now c.args.state.now possible.kept possible.rest
     c.in_ok-possible.possible (seen_text c.in-Some.seen.now) c.in-Some.ensures.some
     possible.possible (reply_in c.in-Some-reply_seen.reply) c.make_with.new.state
     c.in-Some-reply_seen.ensures c.in_ok-make_with.ensures.ok

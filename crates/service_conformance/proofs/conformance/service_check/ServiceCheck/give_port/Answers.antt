@@ -1,5 +1,5 @@
-use Rattle.service_conformance.proofs.Names.{refl, rules, sym, ◌∙◌, ◌≡◌, First, Second, node_of, role_at, role_of, service_of, side_of}
-use Rattle.service_conformance.proofs.Given.{gives_port, has_moved, no_node}
+use Rattle.service_conformance.proofs.Names.{refl, rules, sym, ◌<◌, ◌∙◌, ◌≡◌, First, Second, entries_of_node, node_of, role_at, role_of, service_of, side_of}
+use Rattle.service_conformance.proofs.Given.{gives_port, no_node}
 use Rattle.service_conformance.proofs.conformance.service_check.ServiceCheck.give_port.Goals.{In-Some}
 use Rattle.service_conformance.proofs.conformance.service_check.ServiceCheck.give_port.Goals as goal
 
@@ -9,10 +9,7 @@ returns-then-not-has_node-clause-gives c =
       no_node (service_of c.self.inside) c.self.invariant c.args.slot c.args.ticket
           c.args.details
           (λ h.
-          let t =
-          c.has_node.ensures.no
-          (has_moved (service_of c.self.inside) c.args.self.now (node_of c.args.details)
-          c.node_id.result c.self.view_is (sym c.node_id.ensures) h) in
+          let t = c.has_node.ensures.no (rw (← c.self.view_is, c.node_id.ensures) h) in
           let f = c.if-not-has_node.true in
           absurd (cc)),
       refl,
@@ -22,14 +19,16 @@ role_is : (c : In-Some)
     → role_of c.args.details ≡ role_at c.self.inside.pattern (side_of c.in-Some.first)
 role_is c = sym c.role.ensures ∙ c.in-Some.ensures.some
 
+has_node : (c : In-Some) → 0 < entries_of_node (node_of c.args.details) c.self.inside.nodes
+has_node c =
+    rw (← c.self.view_is, c.node_id.ensures) at (c.has_node.ensures.yes (search rules))
+
 pub invariant_of-self : goal.invariant_of-self
 invariant_of-self c =
     let p = (goal.at.invariant_of-self c).In-Some in
     (gives_port (service_of c.self.inside) c.self.invariant First c.args.slot c.args.ticket
     c.args.details c.give_entry.result c.give_entry.new.self
-    (rw c.if-first.true at (role_is p))
-    (has_moved c.args.self.now (service_of c.self.inside) c.node_id.result (node_of c.args.details)
-    (sym c.self.view_is) c.node_id.ensures (c.has_node.ensures.yes (search rules)))
+    (rw c.if-first.true at (role_is p)) (has_node p)
     c.give_entry.ensures.gives
     c.give_entry.ensures.err).1
 
@@ -39,9 +38,7 @@ returns-then-first-clause-gives c =
     rw (← c.self.view_is)
     (gives_port (service_of c.self.inside) c.self.invariant First c.args.slot c.args.ticket
     c.args.details c.give_entry.result c.give_entry.new.self
-    (rw c.if-first.true at (role_is p))
-    (has_moved c.args.self.now (service_of c.self.inside) c.node_id.result (node_of c.args.details)
-    (sym c.self.view_is) c.node_id.ensures (c.has_node.ensures.yes (search rules)))
+    (rw c.if-first.true at (role_is p)) (has_node p)
     c.give_entry.ensures.gives
     c.give_entry.ensures.err).0
 
@@ -53,9 +50,7 @@ invariant_of-self-2 c =
     let p = (goal.at.invariant_of-self-2 c).In-Some in
     (gives_port (service_of c.self.inside) c.self.invariant Second c.args.slot c.args.ticket
     c.args.details c.give_entry-2.result c.give_entry-2.new.self
-    (rw c.if-first.false at (role_is p))
-    (has_moved c.args.self.now (service_of c.self.inside) c.node_id.result (node_of c.args.details)
-    (sym c.self.view_is) c.node_id.ensures (c.has_node.ensures.yes (search rules)))
+    (rw c.if-first.false at (role_is p)) (has_node p)
     c.give_entry-2.ensures.gives
     c.give_entry-2.ensures.err).1
 
@@ -65,9 +60,7 @@ returns-clause-gives c =
     rw (← c.self.view_is)
     (gives_port (service_of c.self.inside) c.self.invariant Second c.args.slot c.args.ticket
     c.args.details c.give_entry-2.result c.give_entry-2.new.self
-    (rw c.if-first.false at (role_is p))
-    (has_moved c.args.self.now (service_of c.self.inside) c.node_id.result (node_of c.args.details)
-    (sym c.self.view_is) c.node_id.ensures (c.has_node.ensures.yes (search rules)))
+    (rw c.if-first.false at (role_is p)) (has_node p)
     c.give_entry-2.ensures.gives
     c.give_entry-2.ensures.err).0
 
