@@ -10,7 +10,7 @@ use Rattle.service_drawing.specs.Descriptions.{StopsReading, IsOver, IsReason}
 use Rattle.service_drawing.specs.Streams.{IsRequestOf, IsRead, status_of, output_text, error_text, ReportsBadLine, Draws, Answers, Reported}
 use Rattle.service_drawing.specs.declared.streams.Request.{Request}
 use Rattle.service_drawing.specs.declared.fault.Fault.{Fault}
-use Rattle.service_drawing.specs.declared.fault.Fault.TheVariants.{BadLine}
+use Rattle.service_drawing.specs.declared.fault.Fault.TheVariants.{BadLine, NoMemory}
 use Rattle.service_drawing.specs.declared.streams.Written.{Written}
 use Rattle.service_drawing.specs.declared.reading.cause.Expected.{Expected}
 use Rattle.service_drawing.proofs.SettingLines.{one_reason}
@@ -45,6 +45,26 @@ pub draws_no_more : (base : Config) (warnings rest bytes : List ℕ) (expected :
     → StopsReading base expected.rest.now rest
     × IsReason base expected.reason expected.rest.now rest
     → ReportsBadLine bytes expected fault → Draws bytes (Err fault)
-draws_no_more base warnings rest bytes expected (BadLine line cause prefix form) over s h =
-    grind (arith, one_reason)
+draws_no_more base warnings rest bytes expected (BadLine report) over s
+    (line, cause, number, because, is) = (
+      line,
+      cause,
+      expected.prefix.now,
+      expected.form.now,
+      record {
+        base = base;
+        warnings = warnings;
+        rest = rest;
+        over = over;
+        left = expected.rest.now;
+        reason = expected.reason;
+        stops = s.0;
+        number = number;
+        found = s.1;
+        alone = λ other h. one_reason base expected.reason other expected.rest.now rest s.1 h;
+        because = because;
+      },
+      is,
+    )
+draws_no_more base warnings rest bytes expected NoMemory over s h = tt
 draws_no_more base warnings rest bytes expected _ over s h = absurd h

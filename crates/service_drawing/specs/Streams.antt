@@ -78,18 +78,15 @@ cause_text (Read UnknownSetting) = codes ": the pattern has no such setting; "
 cause_text (Read SetTwice) = codes ": the setting was set before; "
 cause_text (Read OtherForm) = codes ": "
 
--- what was expected, and a newline
-abbrev pub expected_text : List ℕ → List ℕ → List ℕ
-expected_text prefix form = codes "expected " ++ prefix ++ (form ++ codes "\n")
-
--- the line that reports a bad line
+-- the line that reports a bad line: its number, why it is bad, and what was expected
 abbrev pub bad_line_text : ℕ → Cause → List ℕ → List ℕ → List ℕ
 bad_line_text line cause prefix form =
-    codes "bad line " ++ decimal line ++ cause_text cause ++ expected_text prefix form
+    codes "bad line " ++ (decimal line ++ (cause_text cause ++ (codes "expected " ++ (prefix
+    ++ (form ++ codes "\n")))))
 
--- the line that reports a fault
+-- the lines that report a fault
 abbrev pub fault_text : Fault → List ℕ
-fault_text (BadLine line cause prefix form) = bad_line_text line cause prefix.now form.now
+fault_text (BadLine report) = string_bytes report
 fault_text BadArgument =
     codes "bad argument: expected svg, -h, --help, --version, or no argument; "
     ++ codes "the description is read from the standard input\n"
@@ -97,13 +94,16 @@ fault_text (BadSettings lines) = string_bytes lines
 fault_text NoEnd = codes "bad settings: no line end follows the line config\n"
 fault_text NoMemory = codes "no memory" ++ 10 ∷ []
 
--- the fault of the line with which what is left
--- begins: its number, the cause, and what was expected
+-- the fault of the line with which what is left begins: a report of its number, the cause, and what
+-- was expected
 abbrev pub ReportsBadLine : List ℕ → Expected → Fault → Type 0
-ReportsBadLine bytes expected (BadLine line cause prefix form) =
-    ((read : List ℕ) → bytes ≡ read ++ expected.rest.now → line ≡ count_by (λ b. b == 10) read + 1)
+ReportsBadLine bytes expected (BadLine report) =
+    (line : ℕ) × (cause : Cause)
+    × ((read : List ℕ) → bytes ≡ read ++ expected.rest.now
+    → line ≡ count_by (λ b. b == 10) read + 1)
     × IsCause expected.rest.now expected.reason cause
-    × (prefix.now ≡ expected.prefix.now) × (form.now ≡ expected.form.now)
+    × (string_bytes report ≡ bad_line_text line cause expected.prefix.now expected.form.now)
+ReportsBadLine bytes expected NoMemory = Unit {0}
 ReportsBadLine bytes expected other = ⊥
 
 -- the line of this number is bad for this cause: behind the block in front, if there is one, it is
@@ -128,7 +128,9 @@ abbrev pub Draws : List ℕ → Result Written Fault → Type 0
 Draws bytes (Ok written) =
     (base : Config) × (rest : List ℕ) × IsOver base (string_bytes written.warnings) rest bytes
     × IsDescription base rest
-Draws bytes (Err (BadLine line cause prefix form)) = IsBadLine line cause bytes
+Draws bytes (Err (BadLine report)) =
+    (line : ℕ) × (cause : Cause) × (prefix : List ℕ) × (form : List ℕ) × IsBadLine line cause bytes
+    × (string_bytes report ≡ bad_line_text line cause prefix form)
 Draws bytes (Err fault) = IsNotOver bytes fault
 
 -- what is answered: the bytes that the reader gives, if they are known, are drawn, or the text

@@ -8,7 +8,6 @@
 
 mod description;
 mod fault;
-mod front;
 mod layout;
 mod reading;
 mod sentences;

@@ -8,17 +8,16 @@ mod attributes;
 pub(crate) mod cause;
 mod message;
 mod service;
-mod settings;
 pub(crate) mod words;
 
 use crate::description::{Description, Exchange};
+use crate::settings::settings_before;
 use attributes::{attributes_before, required_before};
 pub(crate) use cause::Expected;
 use iox2_config::config::Config;
 use iox2_config::hash::PatternKind;
 use message::{fixed_before, message_before};
 use service::service_before;
-use settings::settings_before;
 
 /// The lines of what the ports exchange.
 fn exchange_before(bytes: &[u8], kind: PatternKind) -> Result<(Exchange, &[u8]), Expected<'_>>

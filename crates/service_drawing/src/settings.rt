@@ -1,17 +1,23 @@
-//! The settings of a service, by their own names.
-ghost use Rattle.std.specs.Prelude.{◌≡◌, ◌<◌, IfSome, MatchOption, Some};
-ghost use Rattle.std.specs.Prelude.{IsTrue, false, slice_get, slice_set};
-ghost use Rattle.service_drawing.specs.Settings.{MayBecome, value_text, listed, restored};
-ghost use Rattle.service_drawing.specs.Settings.{setting_names, setting_values};
-ghost use Rattle.service_drawing.specs.declared.settings.Value.{Value};
+//! The settings of a service, by their own names, and the lines that set them.
+ghost use Rattle.std.specs.Prelude.{◌≡◌, ◌<◌, ◌↔◌, ℕ, List, IfErr, IfOk, IfSome, MatchOption};
+ghost use Rattle.std.specs.Prelude.{IsTrue, MatchResult, Some, false, slice_get, slice_set};
 ghost use Rattle.std.specs.Option.{option_map};
+ghost use Rattle.service_drawing.specs.Descriptions.{IsReason};
+ghost use Rattle.service_drawing.specs.Lines.{HasService, StopsAt};
+ghost use Rattle.service_drawing.specs.Settings.{HasConfiguration, HasName, IsDashed, IsNamed};
+ghost use Rattle.service_drawing.specs.Settings.{IsNotSet, IsSetting, MayBecome, Sets, listed};
+ghost use Rattle.service_drawing.specs.Settings.{restored, setting_names, setting_values};
+ghost use Rattle.service_drawing.specs.Settings.{value_text};
+ghost use Rattle.service_drawing.specs.declared.settings.Value.{Value};
 
-use crate::reading::words::number;
-use iox2_config::config::{AllocationStrategy, BackpressureStrategy, Defaults};
+use crate::reading::cause::{Expected, Reason};
+use crate::reading::words::{line_after, number};
+use iox2_config::config::{AllocationStrategy, BackpressureStrategy, Config, Defaults};
 use iox2_config::hash::PatternKind;
 use iox2_config_file::{
     blackboard_settings, event_settings, publish_subscribe_settings, request_response_settings,
 };
+use line_streams::before_byte;
 use std::fmt;
 use std::time::Duration;
 
@@ -51,7 +57,7 @@ impl fmt::Display for Value {
 
 impl Value {
     /// The value of the same kind that the text has.
-    pub(crate) fn of_kind(self, text: &[u8]) -> Option<Value>
+    fn of_kind(self, text: &[u8]) -> Option<Value>
         ensures { MatchOption result
             ((value : Value) → MayBecome self value → ¬ (text.now ≡ value_text value))
             (λ value. MayBecome self value × (text.now ≡ value_text value)) }
@@ -148,7 +154,7 @@ macro_rules! value_of {
 }
 
 /// The names of all settings of a pattern, one after the other.
-pub(crate) fn all_names(kind: PatternKind) -> &'static str
+fn all_names(kind: PatternKind) -> &'static str
     ensures { result.now ≡ listed (setting_names kind) }
 {
     match kind {
@@ -185,12 +191,7 @@ pub(crate) fn row(
 
 /// Sets the setting of this number. A number that no setting of the pattern has is refused, and a
 /// value of another kind than the setting's.
-pub(crate) fn set_value(
-    defaults: &mut Defaults,
-    kind: PatternKind,
-    index: usize,
-    value: Value,
-) -> bool
+fn set_value(defaults: &mut Defaults, kind: PatternKind, index: usize, value: Value) -> bool
     ensures set { IsTrue result → setting_values kind defaults.new
         ≡ slice_set (setting_values kind defaults.old) index value }
     ensures others { restored kind defaults.old defaults.new ≡ defaults.old }
@@ -208,4 +209,112 @@ pub(crate) fn set_value(
         }
         PatternKind::Blackboard => blackboard_settings!(set_in defaults.blackboard, index, value,),
     }
+}
+
+/// Whether the word is this name with dashes instead of underscores.
+fn is_dashed(word: &[u8], name: &str) -> bool
+    ensures { IsTrue result ↔ IsDashed word.now name.now }
+{
+    let name = name.as_bytes();
+    word.len() == name.len()
+        && word.iter().zip(name).all(|(byte, own)| *byte == if *own == b'_' { b'-' } else { *own })
+}
+
+/// Whether the word is this name, as the code or as configuration files have it.
+fn is_named(word: &[u8], name: &str) -> bool
+    ensures { IsTrue result ↔ IsNamed word.now name.now }
+{
+    word == name.as_bytes() || is_dashed(word, name)
+}
+
+/// The number and the value of the setting of this name, if there is one.
+fn find(defaults: &Defaults, kind: PatternKind, word: &[u8]) -> Option<(usize, Value)>
+    ensures name { MatchOption result ((index : ℕ) → ¬ HasName (setting_names kind) index word.now)
+        (λ found. IsSetting (setting_names kind) found.0 word.now) }
+    ensures value { IfSome result (λ found. (found.0 < 32)
+        × (slice_get (setting_values kind defaults.now) found.0 ≡ Some found.1)) }
+{
+    let mut index = 0;
+    while let Some((name, value)) = row(defaults, kind, index) {
+        if is_named(word, name) {
+            return Some((index, value));
+        }
+        index += 1;
+    }
+    None
+}
+
+/// Sets the setting with the name and the value of the text, and marks it as set, or returns why it
+/// does not.
+#[tactic(auto, using(crate::proofs::SettingLines::restored_same, crate::proofs::SettingLines::as_word, crate::proofs::SettingLines::marked_at, crate::proofs::SettingLines::spaced, crate::proofs::SettingLines::no_value_follows))]
+fn set(
+    defaults: &mut Defaults,
+    kind: PatternKind,
+    given: &mut [bool; 32],
+    text: &[u8],
+) -> Result<(), Reason>
+    ensures set { IfOk result (λ done. Sets kind defaults.old given.old text.now
+        defaults.new given.new) }
+    ensures others { restored kind defaults.old defaults.new ≡ defaults.old }
+    ensures kept { IfErr result (λ reason. defaults.new ≡ defaults.old) }
+    ensures refused { IfErr result (λ reason.
+        IsNotSet kind defaults.old given.old text.now reason) }
+{
+    let Some((word, text)) = before_byte(text, b' ') else {
+        return Err(Reason::OtherForm);
+    };
+    let Some((index, value)) = find(defaults, kind, word) else {
+        return Err(Reason::UnknownSetting);
+    };
+    if given[index] {
+        return Err(Reason::SetTwice);
+    }
+    match value.of_kind(text) {
+        Some(value) if set_value(defaults, kind, index, value) => {
+            given[index] = true;
+            Ok(())
+        }
+        _ => Err(Reason::OtherForm),
+    }
+}
+
+/// What was expected instead of a line that sets nothing.
+fn expected(kind: PatternKind, bytes: &[u8], reason: Reason) -> Expected<'_>
+    ensures rest { result.rest.now ≡ bytes.now }
+    ensures reason { result.reason ≡ reason }
+{
+    let (prefix, form) = match reason {
+        Reason::UnknownSetting => ("set NAME VALUE with one of the names ", all_names(kind)),
+        Reason::SetTwice => ("each setting once", ""),
+        _ => ("set NAME VALUE with a value that the setting may have", ""),
+    };
+    Expected {
+        rest: bytes,
+        reason,
+        prefix,
+        form,
+    }
+}
+
+/// The lines of the settings of a pattern, with which the configuration is changed.
+pub(crate) fn settings_before<'a>(
+    bytes: &'a [u8],
+    kind: PatternKind,
+    config: &mut Config,
+) -> Result<&'a [u8], Expected<'a>>
+    ensures { MatchResult result
+        (λ rest. HasConfiguration config.old kind config.new rest.now bytes.now)
+        (λ expected. StopsAt (HasConfiguration config.old kind) expected.rest.now bytes.now
+        × ((name before : List ℕ) → HasService kind name bytes.now before
+        → IsReason config.old expected.reason expected.rest.now before)) }
+{
+    let mut given = [false; 32];
+    let mut rest = bytes;
+    while let Some((text, tail)) = line_after(rest, "", "set ") {
+        match set(&mut config.defaults, kind, &mut given, text) {
+            Ok(()) => rest = tail,
+            Err(reason) => return Err(expected(kind, rest, reason)),
+        }
+    }
+    Ok(rest)
 }

@@ -1,16 +1,20 @@
 //! The program: a description comes from a reader, and goes to a writer as text or as a picture.
-ghost use Rattle.std.specs.Prelude.{[], ◌∷◌, drop, ◌≡◌, ◌<◌, ◌⊎◌, IfErr, IfOk, OnOk, string_bytes};
+ghost use Rattle.std.specs.Prelude.{[], ◌∷◌, drop, ◌≡◌, ◌<◌, ◌⊎◌, IfErr, IfOk, OnOk, MatchResult};
+ghost use Rattle.std.specs.Prelude.{string_bytes};
+ghost use Rattle.service_drawing.specs.Descriptions.{IsNotOver, IsOver};
 ghost use Rattle.service_drawing.specs.Streams.{IsRequest, IsRequestOf, words_of, IsRead};
 ghost use Rattle.service_drawing.specs.Streams.{IsTextOrNoMemory, Draws, Answers, Reported};
 ghost use Rattle.std.specs.Io.KnownBytes.{IsAtEnd};
 ghost use Rattle.line_streams.specs.Streams.{Fails, IsFlushed, ReadFails};
 
 use crate::fault::{Fault, bad_line};
-use crate::front::base_of;
 use crate::reading::read_description;
 use crate::svg::write_svg;
 use crate::text::write_text;
-use line_streams::{Outcome, Sink, Source, read_all, write_outcome, write_whole};
+use config_report::{ReportError, read_file};
+use iox2_config::config::Config;
+use line_streams::{Outcome, Sink, Source, after_word, read_all, write_outcome, write_whole};
+use memchr::memmem;
 use std::alloc::Global;
 use std::env::Args;
 use std::io;
@@ -96,6 +100,52 @@ fn request_by_word(word: &str) -> Result<Request, Fault>
     }
 }
 
+/// How many bytes the word `config` has.
+const CONFIG: usize = 6;
+
+/// How many bytes a line `end` has, with the newline before it and its own.
+const END: usize = 5;
+
+/// What is left of an input, and the configuration over which it is read.
+#[derive(Drop)]
+struct Over<'a> {
+    /// That of the block in front, or without a block the default one.
+    base: Config,
+    /// A line for each key of the block that no setting has.
+    warnings: String,
+    /// What follows the block.
+    rest: &'a [u8],
+}
+
+/// The configuration over which a description is read, or what is wrong with the block in front.
+fn base_of(alloc: Global, bytes: &[u8]) -> Result<Over<'_>, Fault>
+    ensures { MatchResult result
+        (λ over. IsOver over.base (string_bytes over.warnings) over.rest.now bytes.now)
+        (λ fault. IsNotOver bytes.now fault) }
+{
+    let Some(_) = after_word(bytes, b"config\n") else {
+        return Ok(Over {
+            base: Config::default(),
+            warnings: String::new(alloc),
+            rest: bytes,
+        });
+    };
+    // The newline of the line `config` too, so that lines have the numbers that they have in all.
+    let block = &bytes[CONFIG..];
+    let Some(end) = memmem::find(block, b"\nend\n") else {
+        return Err(Fault::NoEnd);
+    };
+    match read_file(alloc, &block[..end + 1]) {
+        Ok(file) => Ok(Over {
+            base: file.config,
+            warnings: file.warnings,
+            rest: &block[end + END..],
+        }),
+        Err(ReportError::Refused(lines)) => Err(Fault::BadSettings(lines)),
+        Err(ReportError::NoMemory) => Err(Fault::NoMemory),
+    }
+}
+
 /// What is written to the output, and to the errors although there is no fault.
 #[derive(Drop)]
 struct Written {
@@ -110,7 +160,7 @@ fn drawn(alloc: Global, form: Form, bytes: &[u8]) -> Result<Written, Fault>
     let over = base_of(alloc, bytes)?;
     let service = match read_description(over.rest, over.base) {
         Ok(service) => service,
-        Err(expected) => return Err(bad_line(bytes, expected)),
+        Err(expected) => return Err(bad_line(alloc, bytes, expected)),
     };
     let mut out = String::new(alloc);
     let done = match form {

@@ -50,8 +50,8 @@ fn reads_and_writes_that_fail(rt: HostRuntime) -> Result<(), Fail> {
 
 #[test]
 fn errors_that_fail(rt: HostRuntime) -> Result<(), Fail> {
-    // The line is written in seven pieces, of which one is empty and not written, and then flushed.
-    for call in 0..7 {
+    // The line is written in one piece, and then flushed.
+    for call in 0..2 {
         let (status, made) = run(rt.alloc(), "", [None, None, Some(call)])?;
         assert_eq!(rt; (status, made[2]), (3, call + 1));
     }

@@ -28,7 +28,7 @@ pub(super) fn next_line(bytes: &[u8]) -> Option<(&[u8], &[u8])>
 
 /// The first line without the prefix, the word and its newline,
 /// and what follows the newline, where that line begins so.
-pub(super) fn line_after<'a>(
+pub(crate) fn line_after<'a>(
     bytes: &'a [u8],
     prefix: &str,
     word: &str,

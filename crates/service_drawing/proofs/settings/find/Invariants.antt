@@ -1,6 +1,6 @@
 use Rattle.std.proofs.Common.{ℕ, ◌-◌, ◌<◌}
 use Rattle.service_drawing.specs.Settings.{HasName, setting_names}
-use Rattle.service_drawing.proofs.reading.settings.find.Given as goal
+use Rattle.service_drawing.proofs.settings.find.Given as goal
 
 abbrev pub invariant-loop-name : goal.invariant-loop-name
 invariant-loop-name l = (k : ℕ) → k < l.index → ¬ HasName (setting_names l.kind) k l.word

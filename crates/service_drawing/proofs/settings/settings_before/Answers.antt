@@ -2,7 +2,7 @@ use Rattle.std.proofs.Common.{[], refl, rules}
 use Rattle.std.specs.List.{IsDistinct}
 use Rattle.service_drawing.proofs.Descriptions.{same_base}
 use Rattle.service_drawing.proofs.SettingLines.{none_marked, one_more_setting, setting_refused}
-use Rattle.service_drawing.proofs.reading.settings.settings_before.Goals as goal
+use Rattle.service_drawing.proofs.settings.settings_before.Goals as goal
 
 pub loop-text-init : goal.loop-text-init
 unfolding IsDistinct

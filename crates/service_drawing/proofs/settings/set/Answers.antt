@@ -1,7 +1,7 @@
 use Rattle.std.proofs.Common.{◌≡◌, false, refl, inr, rules}
 use Rattle.service_drawing.specs.Settings.{setting_names, word_of}
 use Rattle.service_drawing.proofs.SettingLines.{as_word, marked_at, spaced, not_a_value}
-use Rattle.service_drawing.proofs.reading.settings.set.Goals as goal
+use Rattle.service_drawing.proofs.settings.set.Goals as goal
 
 pub returns-in_default-find-clause-refused : goal.returns-in_default-find-clause-refused
 returns-in_default-find-clause-refused c =

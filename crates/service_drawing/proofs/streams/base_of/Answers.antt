@@ -3,7 +3,7 @@ use Rattle.memchr.specs.Find.{FindsNeedle}
 use Rattle.std.proofs.lemmas.List.{take_rest}
 use Rattle.config_report.specs.Findings.{IsRefusal, Refusal}
 use Rattle.service_drawing.specs.Descriptions.{HasBlock}
-use Rattle.service_drawing.proofs.front.base_of.Goals as goal
+use Rattle.service_drawing.proofs.streams.base_of.Goals as goal
 
 -- the slice from this index on
 abbrev from : ℕ → List ℕ → List ℕ

@@ -1,7 +1,7 @@
 use Rattle.std.proofs.Common.{◌≡◌, ℕ, Some, below_more, slice_get, rules}
 use Rattle.service_drawing.specs.Settings.{HasName, IsNamed, setting_names}
 use Rattle.service_drawing.proofs.SettingLines.{none_named, not_named}
-use Rattle.service_drawing.proofs.reading.settings.find.Goals as goal
+use Rattle.service_drawing.proofs.settings.find.Goals as goal
 
 pub loop-name-preserved : goal.loop-name-preserved
 loop-name-preserved c =
