@@ -41,8 +41,10 @@ def taken_names(path):
         return {}
     crate, where = use["crate"], use["path"]
     words = [word.strip() for word in (use["names"] or "").split(",") if word.strip()]
+    # A name may be taken under another one.
+    words = {word.split(" as ")[-1]: word.split(" as ")[0] for word in words}
     if not where.startswith("declared."):
-        return {word: Taken(crate, where, word) for word in words}
+        return {name: Taken(crate, where, word) for name, word in words.items()}
     # The type is the last part of the path, but for the list of its variants.
     where = where.removesuffix(".TheVariants")
     target = Taken(crate, where, where.rpartition(".")[2])

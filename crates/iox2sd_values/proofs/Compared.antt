@@ -1,5 +1,5 @@
 -- A comparison of services has one answer.
-use Rattle.iox2sd_values.proofs.Prelude.{ComparesAlike, Err, HasOneAnswer, None, Ok, Option, Result, Some, [], ap, arith, nat_eq, option_eq, option_map, refl, sym, true, true≢false, ℕ, ◌∙◌, ◌∷◌, ◌≡◌, ◌≤◌}
+use Rattle.iox2sd_values.proofs.Prelude.{ComparesAlike, Err, HasOneAnswer, None, Ok, Option, Some, [], ap, arith, nat_eq, option_eq, option_map, refl, sym, true, true≢false, ℕ, ◌∙◌, ◌∷◌, ◌≡◌, ◌≤◌}
 use Rattle.std.specs.Duration.{as_nanos}
 use Rattle.std.specs.declared.time.Duration.{Duration}
 use Rattle.iox2_config.specs.declared.config.defaults.Event.{Event as Settings}

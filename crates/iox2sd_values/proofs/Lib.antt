@@ -1,5 +1,4 @@
 pub mod Compared
 pub mod Legal
-pub mod Values
-pub mod Verdicts
+pub mod Sets
 mod Prelude

@@ -6,7 +6,7 @@ pub use Rattle.iox2sd_common.specs.Answers.{place_answer}
 pub use Rattle.iox2sd_values.specs.Attributes.{HasText, IsLegal, Judges, ReportsOf, pair_of, text_of}
 pub use Rattle.iox2sd_values.specs.Laws.{ComparesAlike, HasOneAnswer, MakesOneSet}
 pub use Rattle.iox2sd_values.specs.declared.attributes.Attribute.{Attribute}
-pub use Rattle.std.proofs.Common.{All, Bool, Err, List, None, Ok, Option, Result, Some, [], ap, arith, codes, cond, drop, false, get_or, inl, length, map, refl, slice_get, subst, sym, take, true, true≢false, ℕ, ◌++◌, ◌+◌, ◌<◌, ◌∙◌, ◌∷◌, ◌≡◌, ◌≤◌}
+pub use Rattle.std.proofs.Common.{All, Bool, Err, List, None, Ok, Option, Some, [], ap, arith, codes, cond, drop, false, get_or, inl, length, map, refl, slice_get, subst, sym, take, true, true≢false, ℕ, ◌++◌, ◌+◌, ◌<◌, ◌∙◌, ◌∷◌, ◌≡◌, ◌≤◌}
 pub use Rattle.std.proofs.lemmas.List.{get_or-map, get_or_default, length-map, take_all}
 pub use Rattle.std.proofs.lemmas.List.Elements.{All-more}
 pub use Rattle.std.proofs.lemmas.List.Sorted.{Contains-permutation, IsPermutation-map, IsPermutation-sym, IsPermutation-trans, length_permutation, sum_by-IsPermutation}

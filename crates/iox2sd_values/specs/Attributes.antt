@@ -1,20 +1,13 @@
 -- A caller's arrays of keys and values, and what a caller requires of a set of attributes.
-use Rattle.std.specs.Prelude.{◌≡◌, ℕ, ◌+◌, ◌≤◌, List, Some, Result, Ok, Err, map, take, length, slice_get, All, IsPermutation, IsSorted}
-use Rattle.std.specs.Option.{ok_or}
-use Rattle.iox2sd_values.specs.Prelude.{Attribute, CountAnswer, IsName, Key, MakesName, PlaceAnswer, TextAnswer}
-use Rattle.iox2_texts.specs.Attribute.{IsListing, values_of}
-use Rattle.iox2_texts.specs.Pair.{Pair, pair_cmp}
-use Rattle.iox2_texts.specs.Verify.{IsFirst}
+use Rattle.iox2sd_values.specs.Prelude.{Attribute, CountAnswer, IsName, Key, MakesName, PlaceAnswer, TextAnswer, ◌≡◌, ℕ, ◌+◌, ◌≤◌, List, Some, Result, Ok, Err, map, take, length, slice_get, All, IsPermutation, IsSorted, count_answer, place_answer, Reading, Returns, Refusal, IsListing, values_of, Pair, pair_cmp, IsFirst, ok_or}
 use Rattle.iox2_texts.specs.VerifyErrors.{Verifies}
 use Rattle.iox2_texts.specs.declared.attribute.verifier.AttributeVerificationError.{AttributeVerificationError}
 use Rattle.iox2_texts.specs.declared.attribute.verifier.AttributeVerificationError.TheVariants.{NonExistingKey, IncompatibleAttribute}
-use Rattle.iox2sd_common.specs.Answers.{count_answer, place_answer, Reading, Returns}
 use Rattle.iox2sd_common.specs.declared.status.Status.TheVariants as status
 use Rattle.iox2sd_values.specs.declared.attributes.Fault.{Fault}
 use Rattle.iox2sd_values.specs.declared.attributes.Fault.TheVariants as fault
 use Rattle.iox2sd_values.specs.Refusals.{IsCause, MakesOr, ReportsMade, refused_count, refused_place}
 use Rattle.iox2sd_values.specs.Texts.{ChecksName}
-use Rattle.iox2sd_values.specs.declared.refusals.Refusal.{Refusal}
 use Rattle.iox2sd_values.specs.declared.refusals.Refusal.TheVariants as refusal
 
 -- the pair, and the key, as the layer has it

@@ -1,15 +1,9 @@
 -- What is fixed of a service, as plain values, from its name and settings.
-use Rattle.std.specs.Prelude.{◌≡◌, ◌↔◌, ℕ, IsTrue, Option, Some, None, Err, length, Bool, List, [], ◌∷◌, Result, Ok}
-use Rattle.iox2_static.specs.declared.static_config.publish_subscribe.StaticConfig.{StaticConfig as PublishSubscribe}
-use Rattle.iox2_static.specs.declared.static_config.request_response.StaticConfig.{StaticConfig as RequestResponse}
-use Rattle.iox2sd_values.specs.Prelude.{BlackboardConfig, BlackboardSettings, EventConfig, EventSettings, Field, FieldAnswer, IllegalText, PatternKind, PublishSubscribeConfig, PublishSubscribeSettings, ReadsBlackboard, ReadsEvent, ReadsPattern, ReadsPublishSubscribe, ReadsRequestResponse, RequestResponseConfig, RequestResponseSettings, blackboard_of, code, duration_of, event_of, field_answer, no_field, pattern_number, sha1_text}
+use Rattle.iox2sd_values.specs.Prelude.{BlackboardConfig, BlackboardSettings, EventConfig, EventSettings, Field, FieldAnswer, IllegalText, PatternKind, PublishSubscribeConfig, PublishSubscribeSettings, ReadsBlackboard, ReadsEvent, ReadsPattern, ReadsPublishSubscribe, ReadsRequestResponse, RequestResponseConfig, RequestResponseSettings, blackboard_of, code, duration_of, event_of, field_answer, no_field, pattern_number, sha1_text, ◌≡◌, ◌↔◌, ℕ, IsTrue, Option, Some, None, Err, length, Bool, List, [], ◌∷◌, Result, Ok, flag_answer, zero_padded, c_duration, c_event_id, PublishSubscribe, RequestResponse, Refusal, Blackboard}
 use Rattle.iox2_static.specs.Description.{Description, Describes}
 use Rattle.iox2_static.specs.MessagingPattern.{kind_of}
 use Rattle.iox2_static.specs.declared.static_config.messaging_pattern.MessagingPattern.{MessagingPattern}
 use Rattle.iox2_static.specs.declared.static_config.messaging_pattern.MessagingPattern.TheVariants as pattern
-use Rattle.iox2_static.specs.declared.static_config.blackboard.StaticConfig.{StaticConfig as Blackboard}
-use Rattle.iox2sd_common.specs.Answers.{flag_answer, zero_padded}
-use Rattle.iox2sd_common.specs.Settings.{c_duration, c_event_id}
 use Rattle.iox2sd_common.specs.declared.answers.FlagAnswer.{FlagAnswer}
 use Rattle.iox2sd_common.specs.declared.id.Id.{Id}
 use Rattle.iox2sd_values.specs.declared.descriptions.ServiceDescription.{ServiceDescription}
@@ -18,10 +12,9 @@ use Rattle.iox2_config.specs.declared.hash.service_hash.ServiceHashError.{Servic
 use Rattle.iox2_static.specs.PublishSubscribe.{publish_subscribe_of}
 use Rattle.iox2_static.specs.RequestResponse.{request_response_of}
 use Rattle.iox2sd_common.specs.Ids.{number_of}
-use Rattle.iox2sd_values.specs.Chunks.{publish_subscribe, request_response}
-use Rattle.iox2sd_values.specs.Names.{ReadsAnyName}
+use Rattle.iox2sd_values.specs.Settings.{publish_subscribe, request_response}
+use Rattle.iox2sd_values.specs.Texts.{ReadsAnyName}
 use Rattle.iox2sd_values.specs.Refusals.{refused_field}
-use Rattle.iox2sd_values.specs.declared.refusals.Refusal.{Refusal}
 
 -- what is fixed of a publish-subscribe service, beside the types of its messages
 abbrev pub c_publish_subscribe : PublishSubscribe → PublishSubscribeConfig

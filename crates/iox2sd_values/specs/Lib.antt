@@ -1,9 +1,7 @@
 -- Promises: what each export answers, and what the caller's memory holds then.
 pub mod Attributes
-pub mod Chunks
 pub mod Descriptions
 pub mod Messages
-pub mod Names
 pub mod Paths
 pub mod Refusals
 pub mod Satisfies

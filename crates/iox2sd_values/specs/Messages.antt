@@ -1,35 +1,31 @@
 -- What a caller says of the parts of a message, where they lie, and which openers may use them.
-use Rattle.std.specs.Prelude.{◌≡◌, ℕ, List, [], Option, Some, None, Result, Ok, Err, IsTrue, IsUtf8, ◌^◌, ◌<◌, ◌≤◌}
 use Rattle.std.specs.Int.{is_power_of_two}
-use Rattle.iox2sd_common.specs.Answers.{OfGiven, Reading, Returns}
-use Rattle.iox2sd_common.specs.Status.{OfNumber}
-use Rattle.iox2sd_values.specs.Prelude.{Status, code, end_code}
+use Rattle.iox2sd_values.specs.Prelude.{Status, code, end_code, ◌≡◌, ℕ, List, [], Option, Some, None, Result, Ok, Err, IsTrue, IsUtf8, ◌^◌, ◌<◌, ◌≤◌, OfGiven, Reading, Returns, OfNumber, TypeDetailParts}
 use Rattle.iox2_config.specs.TypeDetails.{detail, message, MakesDetail}
-use Rattle.iox2_config.specs.TypeDetailParts.{TypeDetailParts}
 use Rattle.iox2_config.specs.declared.types.message_details.MessageTypeDetails.{MessageTypeDetails}
 use Rattle.iox2_config.specs.declared.types.type_detail.TypeDetailError.{TypeDetailError}
 use Rattle.iox2_config.specs.declared.types.type_detail.TypeDetailError.TheVariants.{Name, AlignmentNotPowerOfTwo}
 use Rattle.iox2_config.specs.declared.types.type_detail.TypeVariant.{TypeVariant}
 use Rattle.iox2_config.specs.declared.types.type_detail.TypeVariant.TheVariants.{FixedSize, Dynamic}
 use Rattle.iox2_texts.specs.declared.bounded.StringModificationError.TheVariants.{InsertWouldExceedCapacity, InvalidCharacter}
-use Rattle.iox2sd_values.specs.declared.details.Details.{Details}
-use Rattle.iox2sd_values.specs.declared.details.Fault.{Fault}
-use Rattle.iox2sd_values.specs.declared.details.Part.{Part}
-use Rattle.iox2sd_values.specs.declared.details.Which.{Which}
-use Rattle.iox2sd_values.specs.declared.details.Which.TheVariants as which
+use Rattle.iox2sd_values.specs.declared.messages.Details.{Details}
+use Rattle.iox2sd_values.specs.declared.messages.Fault.{Fault}
+use Rattle.iox2sd_values.specs.declared.messages.Part.{Part}
+use Rattle.iox2sd_values.specs.declared.messages.Which.{Which}
+use Rattle.iox2sd_values.specs.declared.messages.Which.TheVariants as which
 use Rattle.iox2sd_common.specs.declared.status.Status.TheVariants as status
 use Rattle.iox2_config.specs.Blocks.{HoldsEverywhere}
 use Rattle.iox2_config.specs.Layout.{sample_size, payload_offset, places_in}
 use Rattle.iox2_config.specs.SampleLayoutParts.{SampleLayoutParts}
 use Rattle.iox2_config.specs.declared.types.layout.Places.{Places}
-use Rattle.iox2sd_values.specs.declared.layout.LayoutAnswer.{LayoutAnswer}
-use Rattle.iox2sd_values.specs.declared.layout.PlacesAnswer.{PlacesAnswer}
+use Rattle.iox2sd_values.specs.declared.messages.LayoutAnswer.{LayoutAnswer}
+use Rattle.iox2sd_values.specs.declared.messages.PlacesAnswer.{PlacesAnswer}
 use Rattle.iox2_config.specs.Compatible.{FindsIncompatibility}
 use Rattle.iox2_config.specs.declared.types.incompatibility.Difference.{Difference}
 use Rattle.iox2_config.specs.declared.types.incompatibility.Difference.TheVariants as difference
 use Rattle.iox2_config.specs.declared.types.incompatibility.Incompatibility.{Incompatibility}
 use Rattle.iox2_config.specs.declared.types.incompatibility.Incompatibility.TheVariants as incompatibility
-use Rattle.iox2sd_values.specs.declared.compatible.PartAnswer.{PartAnswer}
+use Rattle.iox2sd_values.specs.declared.messages.PartAnswer.{PartAnswer}
 
 -- the number of a variant
 abbrev pub variant_number : TypeVariant → ℕ

@@ -1,13 +1,9 @@
 -- Paths that are joined, where the system's files lie, and how they are called, where nothing else
 -- is said.
-use Rattle.std.specs.Prelude.{◌≡◌, ℕ, List, [], ◌∷◌, Result, Ok, Err, slice_get}
-use Rattle.std.specs.Option.{ok_or}
+use Rattle.iox2sd_values.specs.Prelude.{MakesJoined, PlaceAnswer, SemanticStringError, TextAnswer, default_node, default_service, ◌≡◌, ℕ, List, [], ◌∷◌, Result, Ok, Err, slice_get, Reading, ReportsText, Refusal, ok_or}
 use lib.Chars.{codes}
-use Rattle.iox2sd_values.specs.Prelude.{MakesJoined, PlaceAnswer, SemanticStringError, TextAnswer, default_node, default_service}
-use Rattle.iox2sd_common.specs.Answers.{Reading, ReportsText}
 use Rattle.iox2sd_values.specs.Refusals.{MakesOr}
 use Rattle.iox2sd_values.specs.Texts.{ChecksFileName, ChecksPath, MakesFileName, MakesPath}
-use Rattle.iox2sd_values.specs.declared.refusals.Refusal.{Refusal}
 use Rattle.iox2sd_values.specs.declared.refusals.Refusal.TheVariants as refusal
 use Rattle.iox2sd_common.specs.declared.status.Status.TheVariants as status
 

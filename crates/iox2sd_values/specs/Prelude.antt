@@ -9,7 +9,7 @@ pub use Rattle.iox2_texts.specs.Name.{IsAllowed, IsName, MakesLegal, MakesName, 
 pub use Rattle.iox2_texts.specs.Path.{EndsPlain, IsPlain, IsRestricted, MakesJoined, is_restricted}
 pub use Rattle.iox2_texts.specs.declared.bounded.SemanticStringError.{SemanticStringError}
 pub use Rattle.iox2sd_common.specs.ReadSettings.{ReadsBlackboard, ReadsEvent, ReadsPublishSubscribe, ReadsRequestResponse, field_answer, no_field}
-pub use Rattle.iox2sd_common.specs.Status.{code, end_code}
+pub use Rattle.iox2sd_common.specs.Status.{code, end_code, OfNumber}
 pub use Rattle.iox2sd_common.specs.declared.answers.CountAnswer.{CountAnswer}
 pub use Rattle.iox2sd_common.specs.declared.answers.PlaceAnswer.{PlaceAnswer}
 pub use Rattle.iox2sd_common.specs.declared.answers.TextAnswer.{TextAnswer}
@@ -26,3 +26,16 @@ pub use Rattle.iox2sd_values.specs.declared.descriptions.BlackboardConfig.{Black
 pub use Rattle.iox2sd_values.specs.declared.descriptions.EventConfig.{EventConfig}
 pub use Rattle.iox2sd_values.specs.declared.descriptions.PublishSubscribeConfig.{PublishSubscribeConfig}
 pub use Rattle.iox2sd_values.specs.declared.descriptions.RequestResponseConfig.{RequestResponseConfig}
+pub use Rattle.iox2_config.specs.DefaultTypes.{default_details}
+pub use Rattle.iox2_config.specs.TypeDetailParts.{TypeDetailParts, default_detail}
+pub use Rattle.iox2_static.specs.declared.static_config.blackboard.StaticConfig.{StaticConfig as Blackboard}
+pub use Rattle.iox2_static.specs.declared.static_config.publish_subscribe.StaticConfig.{StaticConfig as PublishSubscribe}
+pub use Rattle.iox2_static.specs.declared.static_config.request_response.StaticConfig.{StaticConfig as RequestResponse}
+pub use Rattle.iox2_texts.specs.Attribute.{IsListing, values_of}
+pub use Rattle.iox2_texts.specs.Pair.{Pair, pair_cmp}
+pub use Rattle.iox2_texts.specs.Verify.{Misses, IsFirst}
+pub use Rattle.iox2sd_common.specs.Answers.{OfGiven, Returns, count_answer, Written, flag_answer, zero_padded, place_answer, Reading, ReportsText}
+pub use Rattle.iox2sd_common.specs.Settings.{c_global, c_duration, c_event_id}
+pub use Rattle.iox2sd_values.specs.declared.refusals.Refusal.{Refusal}
+pub use Rattle.std.specs.Option.{ok_or}
+pub use Rattle.std.specs.Prelude.{◌≡◌, List, Result, Ok, Err, ℕ, Option, Some, None, false, ◌↔◌, IsTrue, length, Bool, [], ◌∷◌, map, ◌≢◌, true, MatchBool, nat_eq, ⊤, ◌⊎◌, ◌++◌, MatchOption, IsUtf8, ◌^◌, ◌<◌, ◌≤◌, slice_get, ◌+◌, take, All, IsPermutation, IsSorted}

@@ -1,18 +1,11 @@
 -- Whether a service meets what an opener requires, reported by the first setting that it does not
 -- meet.
-use Rattle.std.specs.Prelude.{◌≡◌, ℕ, List, Option, Some, None, Result}
-use Rattle.iox2sd_values.specs.Prelude.{BlackboardConfig, EventConfig, EventSettings, Field, FieldAnswer, PublishSubscribeConfig, ReadsEvent, RequestResponseConfig, code, event_of, field_answer, no_field}
+use Rattle.iox2sd_values.specs.Prelude.{BlackboardConfig, EventConfig, EventSettings, Field, FieldAnswer, PublishSubscribeConfig, ReadsEvent, RequestResponseConfig, code, event_of, field_answer, no_field, ◌≡◌, ℕ, List, Option, Some, None, Result, OfGiven, Reading, PublishSubscribe, RequestResponse, default_details, Blackboard, default_detail}
 use Rattle.iox2_static.specs.Requirements.{first_unmet}
 use Rattle.iox2_static.specs.Satisfies.{publish_subscribe_requirements, event_requirements, request_response_requirements, blackboard_requirements}
-use Rattle.iox2_config.specs.DefaultTypes.{default_details}
-use Rattle.iox2_config.specs.TypeDetailParts.{default_detail}
-use Rattle.iox2_static.specs.declared.static_config.blackboard.StaticConfig.{StaticConfig as Blackboard}
 use Rattle.iox2_static.specs.declared.static_config.event.StaticConfig.{StaticConfig as Event}
-use Rattle.iox2_static.specs.declared.static_config.publish_subscribe.StaticConfig.{StaticConfig as PublishSubscribe}
-use Rattle.iox2_static.specs.declared.static_config.request_response.StaticConfig.{StaticConfig as RequestResponse}
 use Rattle.iox2_static.specs.declared.static_config.setting.Setting.{Setting}
 use Rattle.iox2_static.specs.declared.static_config.setting.Setting.TheVariants as setting
-use Rattle.iox2sd_common.specs.Answers.{OfGiven, Reading}
 use Rattle.iox2sd_common.specs.declared.status.Status.TheVariants as status
 use Rattle.iox2sd_values.specs.Descriptions.{ReadsAs}
 

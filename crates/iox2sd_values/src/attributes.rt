@@ -130,7 +130,7 @@ pub extern "C" fn iox2sd_attributes_sort_at(pairs: &mut [Attribute<'_>]) -> Plac
 }
 
 /// How many pairs have the key.
-#[tactic(auto, using(crate::proofs::Values::counted))]
+#[tactic(auto, using(crate::proofs::Sets::counted))]
 fn count_values(pairs: &[Attribute<'_>], key: &[u8]) -> usize
     ensures { result ≡ length (values_of (map pair_of pairs.now) key.now) }
 {
@@ -189,7 +189,7 @@ fn asked_key(pairs: &[Attribute<'_>], key: &[u8]) -> Result<AttributeKey, Refusa
 ///
 /// Refused are, in this order, pairs that `iox2sd_attributes_check` refuses, with its status, and a
 /// wrong key (`BadAskedKey`).
-#[tactic(auto, using(crate::proofs::Values::as_in_listing))]
+#[tactic(auto, using(crate::proofs::Sets::as_in_listing))]
 #[unsafe(no_mangle)]
 pub extern "C" fn iox2sd_attributes_number_of_key_values_at(
     pairs: &[Attribute<'_>],

@@ -10,8 +10,8 @@ ghost use Rattle.iox2sd_values.specs.Descriptions.{Fills, FillsOf, FillsNamed, M
 ghost use Rattle.iox2sd_values.specs.Descriptions.{MakesPublishSubscribe, MakesEvent};
 ghost use Rattle.iox2sd_values.specs.Descriptions.{MakesRequestResponse};
 
-use super::names::{any_service_name, hash_text};
 use super::refusals::Refusal;
+use super::texts::{any_service_name, hash_text};
 use iox2_config::hash::{PatternKind, ServiceHash};
 use iox2_static::static_config::messaging_pattern::MessagingPattern;
 use iox2_static::static_config::{blackboard, event, publish_subscribe, request_response};

@@ -44,7 +44,9 @@ fn satisfied(unmet: Option<Setting>) -> FieldAnswer
 }
 
 /// What is fixed of a publish-subscribe service, beside the types of its messages.
-fn publish_subscribe_of(config: &PublishSubscribeConfig) -> publish_subscribe::StaticConfig
+pub(super) fn fixed_publish_subscribe(
+    config: &PublishSubscribeConfig,
+) -> publish_subscribe::StaticConfig
     ensures { result ≡ fixed_publish_subscribe config.now }
 {
     publish_subscribe::StaticConfig {
@@ -73,7 +75,7 @@ pub extern "C" fn iox2sd_publish_subscribe_satisfies_at(
 {
     let service = given_or_return!(service, no_field(Status::Null));
     let required = given_or_return!(required, no_field(Status::Null));
-    satisfied(publish_subscribe_of(service).first_unmet(&publish_subscribe_of(required)))
+    satisfied(fixed_publish_subscribe(service).first_unmet(&fixed_publish_subscribe(required)))
 }
 
 /// The settings by which this is fixed of an event service.
@@ -133,7 +135,9 @@ pub extern "C" fn iox2sd_event_satisfies_at(
 }
 
 /// What is fixed of a request-response service, beside the types of its messages.
-fn request_response_of(config: &RequestResponseConfig) -> request_response::StaticConfig
+pub(super) fn fixed_request_response(
+    config: &RequestResponseConfig,
+) -> request_response::StaticConfig
     ensures { result ≡ fixed_request_response config.now }
 {
     request_response::StaticConfig {
@@ -163,11 +167,11 @@ pub extern "C" fn iox2sd_request_response_satisfies_at(
 {
     let service = given_or_return!(service, no_field(Status::Null));
     let required = given_or_return!(required, no_field(Status::Null));
-    satisfied(request_response_of(service).first_unmet(&request_response_of(required)))
+    satisfied(fixed_request_response(service).first_unmet(&fixed_request_response(required)))
 }
 
 /// What is fixed of a blackboard service, beside the type of its keys.
-fn blackboard_of(config: &BlackboardConfig) -> blackboard::StaticConfig
+fn fixed_blackboard(config: &BlackboardConfig) -> blackboard::StaticConfig
     ensures { result ≡ fixed_blackboard config.now }
 {
     blackboard::StaticConfig {
@@ -188,5 +192,5 @@ pub extern "C" fn iox2sd_blackboard_satisfies_at(
 {
     let service = given_or_return!(service, no_field(Status::Null));
     let required = given_or_return!(required, no_field(Status::Null));
-    satisfied(blackboard_of(service).first_unmet(&blackboard_of(required)))
+    satisfied(fixed_blackboard(service).first_unmet(&fixed_blackboard(required)))
 }

@@ -1,4 +1,4 @@
-use Rattle.iox2sd_values.proofs.Values.{sorts}
+use Rattle.iox2sd_values.proofs.Sets.{sorts}
 use Rattle.iox2sd_values.proofs.attributes.sorted.Goals as goal
 
 pub returns : goal.returns

@@ -1,5 +1,5 @@
 use Rattle.iox2sd_values.proofs.Prelude.{length, take}
-use Rattle.iox2sd_values.proofs.Verdicts.{is_listed, judged, reports_pair, reports_key, reports_done}
+use Rattle.iox2sd_values.proofs.Sets.{is_listed, judged, reports_pair, reports_key, reports_done}
 use Rattle.iox2sd_values.proofs.attributes.verify.Goals as goal
 
 pub unreachable-requires : goal.unreachable-requires

@@ -2,7 +2,7 @@ use Rattle.iox2sd_values.proofs.Prelude.{ap, ok_or, refl, slice_get, subst, valu
 use Rattle.iox2sd_common.specs.declared.status.Status.TheVariants as status
 use Rattle.iox2sd_values.specs.Refusals.{ReportsMade}
 use Rattle.iox2sd_values.specs.declared.refusals.Refusal.TheVariants as refusal
-use Rattle.iox2sd_values.proofs.Values.{the_set}
+use Rattle.iox2sd_values.proofs.Sets.{the_set}
 use Rattle.iox2sd_values.proofs.attributes.write_value.Goals as goal
 
 pub returns-in-Some : goal.returns-in-Some

@@ -1,4 +1,4 @@
-use Rattle.iox2sd_values.proofs.Values.{one_set}
+use Rattle.iox2sd_values.proofs.Sets.{one_set}
 use Rattle.iox2sd_values.proofs.laws.pairs_make_one_set.Goals as goal
 
 pub returns : goal.returns

@@ -2,7 +2,7 @@ use Rattle.iox2sd_values.proofs.Prelude.{Err, Ok, subst, ◌++◌}
 use lib.Chars.{codes}
 use Rattle.iox2_texts.specs.Name.{MakesServiceName}
 use Rattle.iox2_texts.specs.declared.service_name.ServiceNameError.TheVariants.{InvalidContent}
-use Rattle.iox2sd_values.proofs.names.prefixed_name.Goals as goal
+use Rattle.iox2sd_values.proofs.texts.prefixed_name.Goals as goal
 
 pub returns-in-Ok-internal_new_prefixed : goal.returns-in-Ok-internal_new_prefixed
 returns-in-Ok-internal_new_prefixed c =

@@ -1,6 +1,6 @@
 use Rattle.iox2sd_values.proofs.Prelude.{Err, inl, refl, subst}
 use Rattle.iox2sd_values.specs.Prelude.{MakesPublicName}
-use Rattle.iox2sd_values.proofs.names.any_service_name.Goals as goal
+use Rattle.iox2sd_values.proofs.texts.any_service_name.Goals as goal
 
 pub returns-in-Err-new : goal.returns-in-Err-new
 returns-in-Err-new c =
