@@ -1,3 +1,2 @@
-mod Listed
+pub mod Listed
 mod Prelude
-pub mod Texts

@@ -1,9 +1,6 @@
 -- What is wrong with a file of settings, as plain values.
-use Rattle.std.specs.Prelude.{ℕ, List, [], ◌++◌, length, take, replicate, Option, Some, None, ◌-◌, ◌^◌, ◌==◌, if◌then◌else◌}
-use Rattle.config_report.specs.Notes.{Note, fault, fault_position, finding_view, topic_note}
-use Rattle.config_report.specs.declared.check.Unread.{Unread}
+use Rattle.iox2sd_config.specs.Prelude.{ℕ, List, [], ◌++◌, length, take, Option, Some, None, ◌-◌, ◌^◌, ◌==◌, if◌then◌else◌, zero_padded, code, status_text, Status, Note, fault, fault_position, finding_view, topic_note, Unread, Section, Position, Located, PlainFault}
 use Rattle.config_report.specs.declared.check.Unread.TheVariants.{NotUtf8, TooDeep, NotToml, NoMemory}
-use Rattle.iox2_config_file.specs.Read.{Located}
 use Rattle.iox2_config_file.specs.Settings.{prefix_of}
 use Rattle.iox2_config_file.specs.declared.fault.Fault.{Fault}
 use Rattle.iox2_config_file.specs.declared.fault.Fault.TheVariants.{WrongType, OutOfRange, NoPath, NoFileName, UnknownVariant, NoDuration, NanosTooLarge}
@@ -12,15 +9,9 @@ use Rattle.iox2_config_file.specs.declared.fault.Kind.TheVariants as kind
 use Rattle.iox2_config_file.specs.declared.fault.NameFault.TheVariants.{TooLong}
 use Rattle.iox2_config_file.specs.declared.fault.TomlType.{TomlType}
 use Rattle.iox2_config_file.specs.declared.fault.TomlType.TheVariants as type
-use Rattle.iox2_config_file.specs.declared.section.Section.{Section}
 use Rattle.iox2_config_file.specs.declared.section.Section.TheVariants as section
 use Rattle.iox2_texts.specs.declared.bounded.SemanticStringError.TheVariants.{InvalidContent, ExceedsMaximumLength}
-use Rattle.iox2sd_common.specs.Answers.{zero_padded}
-use Rattle.iox2sd_common.specs.Status.{code, status_text}
-use Rattle.iox2sd_common.specs.declared.status.Status.{Status}
 use Rattle.iox2sd_common.specs.declared.status.Status.TheVariants as status
-use Rattle.iox2sd_config.specs.declared.fault.PlainFault.{PlainFault}
-use Rattle.toml_positions.specs.declared.position.Position.{Position}
 
 -- the number of a table of the file
 abbrev pub section_number : Section → ℕ
@@ -94,25 +85,6 @@ cut_key path = zero_padded 80 (take 80 path)
 abbrev pub cut_reason : List ℕ → List ℕ
 cut_reason words = zero_padded 256 (take 256 words)
 
--- a status in these words, and nothing of a key
-abbrev pub worded : Status → List ℕ → PlainFault
-worded s words = record {
-  status = code s;
-  table = 0;
-  found = 0;
-  wanted = 0;
-  line = 0;
-  column = 0;
-  key = replicate 80 0;
-  key_length = 0;
-  reason = cut_reason words;
-  reason_length = length words;
-}
-
--- a status in its own words, and nothing of a key
-abbrev pub no_position : Status → PlainFault
-no_position s = worded s (status_text s)
-
 -- the line and the column of a position, 0 where there is none
 abbrev pub line_of : Option Position → ℕ
 line_of None = 0
@@ -127,21 +99,33 @@ abbrev pub key_of : Option (List ℕ) → List ℕ
 key_of None = []
 key_of (Some key) = key
 
--- what the report on a file says at a position, with its status, and with the table, the type and
--- the kind of the value
-abbrev pub c_note : Status → ℕ → ℕ → ℕ → Note → PlainFault
-c_note s table found wanted n = record {
+-- a status, with the table, the type and the kind of a value, at a position, of a key, in words
+abbrev pub c_found : Status → ℕ → ℕ → ℕ → Option Position → Option (List ℕ) → List ℕ → PlainFault
+c_found s table found wanted at key words = record {
   status = code s;
   table = table;
   found = found;
   wanted = wanted;
-  line = line_of n.position;
-  column = column_of n.position;
-  key = cut_key (key_of n.key);
-  key_length = length (key_of n.key);
-  reason = cut_reason n.message;
-  reason_length = length n.message;
+  line = line_of at;
+  column = column_of at;
+  key = cut_key (key_of key);
+  key_length = length (key_of key);
+  reason = cut_reason words;
+  reason_length = length words;
 }
+
+-- what the report on a file says, with its status, and with the table, the type and the kind of the
+-- value
+abbrev pub c_note : Status → ℕ → ℕ → ℕ → Note → PlainFault
+c_note s table found wanted n = c_found s table found wanted n.position n.key n.message
+
+-- a status in these words, and nothing of a key
+abbrev pub worded : Status → List ℕ → PlainFault
+worded s words = c_found s 0 0 0 None None words
+
+-- a status in its own words, and nothing of a key
+abbrev pub no_position : Status → PlainFault
+no_position s = worded s (status_text s)
 
 -- what the report says of a value that is not allowed, where its key has this position
 abbrev pub c_at : Option Position → Located → PlainFault

@@ -1,22 +1,48 @@
--- The text of a file of settings: its settings, or what is wrong with it.
-use Rattle.std.specs.Prelude.{◌≡◌, ◌⊎◌, ℕ, Bool, List, [], ◌∷◌, map, length, Option, Some, None}
-use Rattle.config_report.specs.Findings.{IsInOrder, IsText, IsUnread}
-use Rattle.config_report.specs.declared.check.Unread.{Unread}
-use Rattle.iox2_config.specs.declared.config.Config.{Config}
-use Rattle.iox2_config_file.specs.Answers.{ReadsAll}
-use Rattle.iox2_config_file.specs.Read.{fault_view}
+-- All settings as one plain value, and the text of a file of settings: its settings, or what is
+-- wrong with it.
+use Rattle.iox2sd_config.specs.Prelude.{ℕ, List, length, ◌≡◌, ◌⊎◌, Bool, [], ◌∷◌, map, Option, Some, None, GlobalSettings, Config, ReadsAll, zero_padded, count_answer, fit_status, Writes, code, Status, PlainConfig, PlainText, PlainTexts, IsInOrder, IsText, IsUnread, Unread, FileContents, fault_view, PlainFault}
+use Rattle.iox2sd_common.specs.Settings.{c_global, c_publish_subscribe, c_event, c_request_response, c_blackboard}
 use Rattle.iox2_config_file.specs.declared.fault.SettingFault.{SettingFault}
-use Rattle.iox2_config_file.specs.declared.read.FileContents.{FileContents}
-use Rattle.iox2sd_common.specs.Answers.{count_answer, fit_status, Writes}
-use Rattle.iox2sd_common.specs.Status.{code}
 use Rattle.iox2sd_common.specs.declared.answers.CountAnswer.{CountAnswer}
-use Rattle.iox2sd_common.specs.declared.status.Status.{Status}
 use Rattle.iox2sd_common.specs.declared.status.Status.TheVariants as status
-use Rattle.iox2sd_config.specs.Configs.{c_config}
 use Rattle.iox2sd_config.specs.Faults.{no_position, worded, c_fault, c_unread, unread_status, sort_key_at}
-use Rattle.iox2sd_config.specs.declared.config.PlainConfig.{PlainConfig}
-use Rattle.iox2sd_config.specs.declared.fault.PlainFault.{PlainFault}
 use Rattle.iox2sd_config.specs.declared.read.ConfigAnswer.{ConfigAnswer}
+
+-- a text with its length
+abbrev pub c_text : List ℕ → PlainText
+c_text text = record { bytes = zero_padded 256 text; length = length text }
+
+-- the texts of a system's settings
+abbrev pub c_texts : GlobalSettings → PlainTexts
+c_texts g = record {
+  root_path = c_text g.root_path;
+  prefix = c_text g.prefix;
+  service_directory = c_text g.service.directory;
+  data_segment_suffix = c_text g.service.data_segment_suffix;
+  static_config_storage_suffix = c_text g.service.static_config_storage_suffix;
+  dynamic_config_storage_suffix = c_text g.service.dynamic_config_storage_suffix;
+  connection_suffix = c_text g.service.connection_suffix;
+  event_connection_suffix = c_text g.service.event_connection_suffix;
+  blackboard_mgmt_suffix = c_text g.service.blackboard_mgmt_suffix;
+  blackboard_data_suffix = c_text g.service.blackboard_data_suffix;
+  node_directory = c_text g.node.directory;
+  monitor_suffix = c_text g.node.monitor_suffix;
+  node_static_config_suffix = c_text g.node.static_config_suffix;
+  service_tag_suffix = c_text g.node.service_tag_suffix;
+  port_tag_suffix = c_text g.node.port_tag_suffix;
+  global_mgmt_suffix = c_text g.node.global_mgmt_suffix;
+}
+
+-- all settings of a configuration
+abbrev pub c_config : Config → PlainConfig
+c_config c = record {
+  global = c_global c.global;
+  texts = c_texts c.global;
+  publish_subscribe = c_publish_subscribe c.defaults.publish_subscribe;
+  event = c_event c.defaults.event;
+  request_response = c_request_response c.defaults.request_response;
+  blackboard = c_blackboard c.defaults.blackboard;
+}
 
 -- where a fault stands among others
 abbrev pub fault_sort_key : PlainFault → ℕ × ℕ
@@ -54,12 +80,17 @@ Settles bytes contents None old answer new =
     (first : PlainFault) × ReportsFirst bytes contents.faults.items first
     × Keeps first old answer new
 
+-- what is said of what a file has, or of why the bytes are none
+abbrev pub OfFile : List ℕ → (FileContents → Type 0) → (Unread → Type 0) → Type 0
+OfFile bytes Says Refuses =
+    (IsText bytes × (contents : FileContents) × ReadsAll bytes contents × Says contents)
+    ⊎ ((unread : Unread) × IsUnread bytes unread × Refuses unread)
+
 -- the settings of the file are those of this struct, or it is as it was
 abbrev pub ReadsInto : List ℕ → PlainConfig → ConfigAnswer → PlainConfig → Type 0
 ReadsInto bytes old answer new =
-    (IsText bytes × (contents : FileContents) × ReadsAll bytes contents
-    × Settles bytes contents contents.config old answer new)
-    ⊎ ((unread : Unread) × IsUnread bytes unread × Keeps (c_unread unread) old answer new)
+    OfFile bytes (λ file. Settles bytes file file.config old answer new)
+    (λ unread. Keeps (c_unread unread) old answer new)
 
 -- the same of the first struct, where there is one
 abbrev pub Answers : List ℕ → List PlainConfig → ConfigAnswer → List PlainConfig → Type 0
@@ -88,7 +119,5 @@ PutsListed bytes faults old answer new =
 -- all faults of a file are listed, or it is none, or there was no memory
 abbrev pub ReportsFile : List ℕ → List PlainFault → CountAnswer → List PlainFault → Type 0
 ReportsFile bytes old answer new =
-    (IsText bytes × (contents : FileContents) × ReadsAll bytes contents
-    × PutsListed bytes contents.faults.items old answer new)
-    ⊎ ((unread : Unread) × IsUnread bytes unread
-    × RefusesCount (unread_status unread) old answer new)
+    OfFile bytes (λ file. PutsListed bytes file.faults.items old answer new)
+    (λ unread. RefusesCount (unread_status unread) old answer new)

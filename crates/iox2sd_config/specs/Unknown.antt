@@ -1,23 +1,15 @@
 -- The keys of a file that no setting has.
-use Rattle.std.specs.Prelude.{◌≡◌, ◌⊎◌, ◌≤◌, ◌<◌, ℕ, List, [], ◌++◌, map, flat_map, drop, length, Option, Some, None, string_bytes}
-use Rattle.config_report.specs.Notes.{Note, topic_note, unknown, unknown_position}
-use Rattle.config_report.specs.Findings.{IsInOrder, IsText, IsUnread}
-use Rattle.config_report.specs.declared.check.Unread.{Unread}
-use Rattle.iox2_config_file.specs.Answers.{ReadsAll}
+use Rattle.iox2sd_config.specs.Prelude.{◌≡◌, ◌⊎◌, ◌≤◌, ◌<◌, ℕ, List, [], ◌++◌, map, flat_map, drop, length, Option, Some, None, string_bytes, code, Status, Note, topic_note, unknown, unknown_position, IsInOrder, Section, Position}
 use Rattle.iox2_config_file.specs.Unknown.{Proposed, Unknown, unknown_view}
 use Rattle.iox2_config_file.specs.declared.proposal.Likeness.{Likeness}
 use Rattle.iox2_config_file.specs.declared.proposal.Likeness.TheVariants.{Spelling, OtherTable, Quoted, Near}
-use Rattle.iox2_config_file.specs.declared.read.FileContents.{FileContents}
-use Rattle.iox2_config_file.specs.declared.section.Section.{Section}
 use Rattle.iox2_config_file.specs.declared.unknown.UnknownKey.{UnknownKey}
-use Rattle.iox2sd_common.specs.Status.{code}
-use Rattle.iox2sd_common.specs.declared.status.Status.{Status}
 use Rattle.iox2sd_common.specs.declared.status.Status.TheVariants as status
+use Rattle.iox2sd_config.specs.Files.{OfFile}
 use Rattle.iox2sd_config.specs.Faults.{section_number, key_path, key_of, cut_key, cut_reason, line_of, column_of, unread_status, sort_key_at}
 use Rattle.iox2sd_config.specs.declared.unknown.NamedKey.{NamedKey}
 use Rattle.iox2sd_config.specs.declared.unknown.PlainUnknown.{PlainUnknown}
 use Rattle.iox2sd_config.specs.declared.unknown.UnknownAnswer.{UnknownAnswer}
-use Rattle.toml_positions.specs.declared.position.Position.{Position}
 
 -- the number of how a known key is like one that is not known
 abbrev pub likeness_number : Likeness → ℕ
@@ -116,7 +108,6 @@ PutsUnknown bytes keys old old_paths answer new new_paths =
 abbrev pub ListsUnknown : List ℕ → List PlainUnknown → List ℕ → UnknownAnswer
     → List PlainUnknown → List ℕ → Type 0
 ListsUnknown bytes old old_paths answer new new_paths =
-    (IsText bytes × (contents : FileContents) × ReadsAll bytes contents
-    × PutsUnknown bytes contents.unknown.items old old_paths answer new new_paths)
-    ⊎ ((unread : Unread) × IsUnread bytes unread
-    × RefusesKeys (unread_status unread) old old_paths answer new new_paths)
+    OfFile bytes
+    (λ file. PutsUnknown bytes file.unknown.items old old_paths answer new new_paths)
+    (λ unread. RefusesKeys (unread_status unread) old old_paths answer new new_paths)

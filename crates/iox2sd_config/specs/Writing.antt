@@ -1,26 +1,17 @@
 -- Settings that a caller filled, as the text of a file.
-use Rattle.std.specs.Prelude.{◌≡◌, ◌⊎◌, ⊤, ℕ, Bool, if◌then◌else◌, nat_lt, List, [], ◌∷◌, length, take, replicate, Result, Ok, Err, IfOk, String, string_bytes}
+use Rattle.iox2sd_config.specs.Prelude.{◌≡◌, ◌⊎◌, ⊤, ℕ, Bool, if◌then◌else◌, nat_lt, List, [], ◌∷◌, length, take, replicate, Result, Ok, Err, IfOk, String, string_bytes, GlobalSettings, Config, ReadsBack, Writes, fit_status, code, Status, PlainConfig, PlainText, PlainTexts}
 use lib.Chars.{codes}
 use Rattle.std.specs.declared.alloc.Global.{Global}
-use Rattle.iox2_config.specs.GlobalSettings.{GlobalSettings}
-use Rattle.iox2_config.specs.declared.config.Config.{Config}
 use Rattle.iox2_config.specs.declared.config.defaults.Defaults.{Defaults}
 use Rattle.iox2_config.specs.declared.config.global.Node.{Node}
 use Rattle.iox2_config.specs.declared.config.global.Service.{Service}
-use Rattle.iox2_config_file.specs.Answers.{ReadsBack}
 use Rattle.iox2_config_file.specs.Write.{Writes as WritesFile}
 use Rattle.iox2_config_file.specs.declared.write.ConfigWriteError.{ConfigWriteError}
 use Rattle.iox2_config_file.specs.declared.write.ConfigWriteError.TheVariants.{OutOfRange, NoMemory}
 use Rattle.iox2_texts.specs.Name.{IsAllowed}
 use Rattle.iox2_texts.specs.Path.{IsPlain}
-use Rattle.iox2sd_common.specs.Answers.{Writes, fit_status}
-use Rattle.iox2sd_common.specs.Status.{code}
-use Rattle.iox2sd_common.specs.declared.status.Status.{Status}
 use Rattle.iox2sd_common.specs.declared.status.Status.TheVariants as status
 use Rattle.iox2sd_config.specs.Faults.{key_path, cut_key}
-use Rattle.iox2sd_config.specs.declared.config.PlainConfig.{PlainConfig}
-use Rattle.iox2sd_config.specs.declared.config.PlainText.{PlainText}
-use Rattle.iox2sd_config.specs.declared.config.PlainTexts.{PlainTexts}
 use Rattle.iox2sd_config.specs.declared.write.BadText.{BadText}
 use Rattle.iox2sd_config.specs.declared.write.Unfit.{Unfit}
 use Rattle.iox2sd_config.specs.declared.write.Unfit.TheVariants as unfit

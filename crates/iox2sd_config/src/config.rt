@@ -1,6 +1,6 @@
 //! All settings as one plain value.
 ghost use Rattle.std.specs.Prelude.{◌≡◌, ◌≤◌, length};
-ghost use Rattle.iox2sd_config.specs.Configs.{c_text, c_texts, c_config};
+ghost use Rattle.iox2sd_config.specs.Files.{c_text, c_texts, c_config};
 
 use iox2_config::config::{Config, Global};
 use iox2sd_common::answers::zero_padded;

@@ -179,7 +179,7 @@ fn read_name(text: &PlainText, key: &'static str) -> Result<FileName, BadText>
 }
 
 /// Sets the paths of a system's settings, or returns the first text that is none.
-#[tactic(auto, using(crate::proofs::Texts::refused_texts))]
+#[tactic(auto, using(crate::proofs::Listed::refused_texts))]
 fn read_paths(texts: &PlainTexts, global: &mut Global) -> Result<(), BadText>
     ensures ok { OnOk result (HasPaths texts.now) }
     ensures made { OnOk result (global.new ≡ with_paths texts.now global.old) }
@@ -193,7 +193,7 @@ fn read_paths(texts: &PlainTexts, global: &mut Global) -> Result<(), BadText>
 }
 
 /// Sets what the names of services' files end with, or returns the first text that is none.
-#[tactic(auto, using(crate::proofs::Texts::refused_texts))]
+#[tactic(auto, using(crate::proofs::Listed::refused_texts))]
 fn read_service_names(texts: &PlainTexts, service: &mut Service) -> Result<(), BadText>
     ensures ok { OnOk result (HasServiceNames texts.now) }
     ensures made { OnOk result (service.new ≡ with_service_names texts.now service.old) }
@@ -232,7 +232,7 @@ fn read_service_names(texts: &PlainTexts, service: &mut Service) -> Result<(), B
 }
 
 /// Sets what the names of nodes' files end with, or returns the first text that is none.
-#[tactic(auto, using(crate::proofs::Texts::refused_texts))]
+#[tactic(auto, using(crate::proofs::Listed::refused_texts))]
 fn read_node_names(texts: &PlainTexts, node: &mut Node) -> Result<(), BadText>
     ensures ok { OnOk result (HasNodeNames texts.now) }
     ensures made { OnOk result (node.new ≡ with_node_names texts.now node.old) }

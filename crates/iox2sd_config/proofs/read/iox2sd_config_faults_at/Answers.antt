@@ -1,5 +1,5 @@
-use Rattle.iox2sd_config.proofs.Prelude.{ap, inl, inr, refl, ◌∙◌}
-use Rattle.iox2sd_common.specs.Answers.{count_answer}
+use Rattle.iox2sd_config.proofs.Prelude.{PutsListed, ap, count_answer, inr, refl, ◌∙◌}
+use Rattle.iox2sd_config.proofs.Listed.{of_file}
 use Rattle.iox2sd_config.proofs.read.iox2sd_config_faults_at.Goals as goal
 
 pub put_listed-requires : goal.put_listed-requires
@@ -7,12 +7,9 @@ put_listed-requires c = rw (c.in-Ok.ensures.ok.0, c.in-Ok.ensures.ok.2.parsed) r
 
 pub returns-in-Ok : goal.returns-in-Ok
 returns-in-Ok c =
-    inl (
-      c.in-Ok.ensures.ok.1,
-      _,
-      c.in-Ok.ensures.ok.2,
-      rw (c.in-Ok.ensures.ok.0, c.as_slice.ensures.value) at c.put_listed.ensures,
-    )
+    of_file _ _ _
+    (λ t file. PutsListed t file.faults.items c.args.out.now c.put_listed.result
+    c.put_listed.new.out) _ c.in-Ok.ensures.ok (rw c.as_slice.ensures.value at c.put_listed.ensures)
 
 pub returns-in-Err : goal.returns-in-Err
 returns-in-Err c =

@@ -1,4 +1,5 @@
-use Rattle.iox2sd_config.proofs.Prelude.{ap, inl, inr, refl, unknown_answer, ◌∙◌}
+use Rattle.iox2sd_config.proofs.Prelude.{PutsUnknown, ap, inr, refl, unknown_answer, ◌∙◌}
+use Rattle.iox2sd_config.proofs.Listed.{of_file}
 use Rattle.iox2sd_config.proofs.unknown.iox2sd_config_unknown_at.Goals as goal
 
 pub put_unknown-requires : goal.put_unknown-requires
@@ -6,12 +7,10 @@ put_unknown-requires c = rw (c.in-Ok.ensures.ok.0, c.in-Ok.ensures.ok.2.parsed) 
 
 pub returns-in-Ok : goal.returns-in-Ok
 returns-in-Ok c =
-    inl (
-      c.in-Ok.ensures.ok.1,
-      _,
-      c.in-Ok.ensures.ok.2,
-      rw (c.in-Ok.ensures.ok.0, c.as_slice.ensures.value) at c.put_unknown.ensures,
-    )
+    of_file _ _ _
+    (λ t file. PutsUnknown t file.unknown.items c.args.out.now c.args.paths.now
+    c.put_unknown.result c.put_unknown.new.out c.put_unknown.new.paths) _ c.in-Ok.ensures.ok
+    (rw c.as_slice.ensures.value at c.put_unknown.ensures)
 
 pub returns-in-Err : goal.returns-in-Err
 returns-in-Err c =
