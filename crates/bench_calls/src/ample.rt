@@ -3,9 +3,7 @@
 
 mod containers;
 mod listings;
-mod ports;
 mod replaying;
-mod scripts;
 mod services;
 
 use std::alloc::{AllocError, Global};
@@ -36,5 +34,5 @@ pub(super) fn call_all<W: Write>(alloc: Global, output: &mut W, size: usize) -> 
     tell(output, size, &services::calls(alloc, size))?;
     tell(output, size, &replaying::calls(alloc, size))?;
     tell(output, size, &listings::calls(alloc, size))?;
-    tell(output, size, &scripts::calls(alloc, size))
+    tell(output, size, &replaying::calls_on_scripts(alloc, size))
 }

@@ -10,17 +10,6 @@ use std::alloc::Global;
 /// The capacities of a service: first ports, second ports and nodes.
 type Capacities = (usize, usize, usize);
 
-/// The settings of each pattern, with these capacities of the ports that are recovered first, and
-/// of the others.
-fn settings(first: usize, second: usize) -> [MessagingPatternSettings; 4] {
-    [
-        MessagingPatternSettings::new(PatternKind::PublishSubscribe, first, second),
-        MessagingPatternSettings::new(PatternKind::Event, first, second),
-        MessagingPatternSettings::new(PatternKind::RequestResponse, first, second),
-        MessagingPatternSettings::new(PatternKind::Blackboard, first, second),
-    ]
-}
-
 /// The ports alone, by the maker of the pattern.
 fn makes_ports(alloc: Global, settings: &MessagingPatternSettings) -> bool {
     match settings {
@@ -42,8 +31,9 @@ fn makes_ports(alloc: Global, settings: &MessagingPatternSettings) -> bool {
 /// The ports of each pattern.
 fn ports(alloc: Global, first: usize, second: usize) -> bool {
     let mut all = true;
-    for settings in &settings(first, second) {
-        all = all && makes_ports(alloc, settings);
+    for pattern in PatternKind::ALL {
+        let settings = MessagingPatternSettings::new(pattern, first, second);
+        all = all && makes_ports(alloc, &settings);
     }
     all
 }
@@ -51,8 +41,9 @@ fn ports(alloc: Global, first: usize, second: usize) -> bool {
 /// A service of each pattern.
 fn services(alloc: Global, (nodes, first, second): Capacities) -> bool {
     let mut all = true;
-    for settings in &settings(first, second) {
-        all = all && is_given(DynamicConfig::new(alloc, settings, nodes, 7));
+    for pattern in PatternKind::ALL {
+        let settings = MessagingPatternSettings::new(pattern, first, second);
+        all = all && is_given(DynamicConfig::new(alloc, &settings, nodes, 7));
     }
     all
 }
@@ -60,8 +51,9 @@ fn services(alloc: Global, (nodes, first, second): Capacities) -> bool {
 /// A service of each pattern with this many tickets.
 fn by_tickets(alloc: Global, tickets: u64) -> bool {
     let mut all = true;
-    for settings in &settings(1, 1) {
-        all = all && is_given(DynamicConfig::with_tickets(alloc, settings, 1, 7, tickets));
+    for pattern in PatternKind::ALL {
+        let settings = MessagingPatternSettings::new(pattern, 1, 1);
+        all = all && is_given(DynamicConfig::with_tickets(alloc, &settings, 1, 7, tickets));
     }
     all
 }
@@ -69,8 +61,9 @@ fn by_tickets(alloc: Global, tickets: u64) -> bool {
 /// The state of a service of each pattern.
 fn states(alloc: Global, (nodes, first, second): Capacities) -> bool {
     let mut all = true;
-    for settings in &settings(first, second) {
-        all = all && is_given(ServiceState::new(alloc, settings, nodes, 7));
+    for pattern in PatternKind::ALL {
+        let settings = MessagingPatternSettings::new(pattern, first, second);
+        all = all && is_given(ServiceState::new(alloc, &settings, nodes, 7));
     }
     all
 }
