@@ -1,5 +1,5 @@
-//! Texts with their control characters escaped, so that each stands in one line and a terminal takes
-//! nothing of them as a command.
+//! Texts with their control characters escaped, so that each stands in one line and a terminal
+//! takes nothing of them as a command.
 ghost use Rattle.std.specs.Prelude.{◌≡◌, ◌++◌, IfOk, OnOk, string_bytes};
 ghost use Rattle.config_report.specs.Printable.{printable, printable_char, printable_line};
 

@@ -1,4 +1,5 @@
--- What is made of the items of a list, one after the other: of findings, of the keys of a table, of files, and of the words of the command line.
+-- What is made of the items of a list, one after the other: of findings, of the keys of a table, of
+-- files, and of the words of the command line.
 use Rattle.std.proofs.Common.{◌≡◌, ℕ, true, ◌+◌, List, [], ◌∷◌, ◌++◌, length, map, append_assoc, append-nil, arith, ◌≤◌, ◌<◌, false, Bool, drop, get_or, drop_of_length-le, refl, sym, ap, ◌∙◌, subst, Result, string_bytes, Option, Some, None}
 use Rattle.std.specs.Prelude.{String, IsSome, ◌↔◌, option_to_list}
 use Rattle.iox2_config_file.specs.declared.section.Row.{Row}
