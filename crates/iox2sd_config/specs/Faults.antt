@@ -1,5 +1,6 @@
 -- What is wrong with a file of settings, as plain values.
-use Rattle.iox2sd_config.specs.Prelude.{ℕ, List, [], ◌++◌, length, take, Option, Some, None, ◌-◌, ◌^◌, ◌==◌, if◌then◌else◌, zero_padded, code, status_text, Status, Note, fault, fault_position, finding_view, topic_note, Unread, Section, Position, Located, PlainFault}
+use Rattle.std.specs.Prelude.{ℕ, List, [], ◌++◌, length, take, Option, Some, None, ◌-◌, ◌^◌, ◌==◌, if◌then◌else◌}
+use Rattle.iox2sd_config.specs.Prelude.{zero_padded, code, status_text, Status, Note, fault, fault_position, finding_view, topic_note, Unread, Section, Position, Located, PlainFault}
 use Rattle.config_report.specs.declared.check.Unread.TheVariants.{NotUtf8, TooDeep, NotToml, NoMemory}
 use Rattle.iox2_config_file.specs.Settings.{prefix_of}
 use Rattle.iox2_config_file.specs.declared.fault.Fault.{Fault}

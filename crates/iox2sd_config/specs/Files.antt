@@ -1,6 +1,7 @@
 -- All settings as one plain value, and the text of a file of settings: its settings, or what is
 -- wrong with it.
-use Rattle.iox2sd_config.specs.Prelude.{ℕ, List, length, ◌≡◌, ◌⊎◌, Bool, [], ◌∷◌, map, Option, Some, None, GlobalSettings, Config, ReadsAll, zero_padded, count_answer, fit_status, Writes, code, Status, PlainConfig, PlainText, PlainTexts, IsInOrder, IsText, IsUnread, Unread, FileContents, fault_view, PlainFault}
+use Rattle.std.specs.Prelude.{ℕ, List, length, ◌≡◌, ◌⊎◌, Bool, [], ◌∷◌, map, Option, Some, None}
+use Rattle.iox2sd_config.specs.Prelude.{GlobalSettings, Config, ReadsAll, zero_padded, count_answer, fit_status, Writes, code, Status, PlainConfig, PlainText, PlainTexts, IsInOrder, IsText, IsUnread, Unread, FileContents, fault_view, PlainFault}
 use Rattle.iox2sd_common.specs.Settings.{c_global, c_publish_subscribe, c_event, c_request_response, c_blackboard}
 use Rattle.iox2_config_file.specs.declared.fault.SettingFault.{SettingFault}
 use Rattle.iox2sd_common.specs.declared.answers.CountAnswer.{CountAnswer}

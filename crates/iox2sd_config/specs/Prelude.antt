@@ -15,5 +15,4 @@ pub use Rattle.iox2sd_config.specs.declared.config.PlainConfig.{PlainConfig}
 pub use Rattle.iox2sd_config.specs.declared.config.PlainText.{PlainText}
 pub use Rattle.iox2sd_config.specs.declared.config.PlainTexts.{PlainTexts}
 pub use Rattle.iox2sd_config.specs.declared.fault.PlainFault.{PlainFault}
-pub use Rattle.std.specs.Prelude.{◌≡◌, ◌⊎◌, ⊤, ℕ, Bool, if◌then◌else◌, nat_lt, List, [], ◌∷◌, length, take, replicate, Result, Ok, Err, IfOk, String, string_bytes, ◌≤◌, ◌<◌, ◌++◌, map, flat_map, drop, Option, Some, None, ◌-◌, ◌^◌, ◌==◌}
 pub use Rattle.toml_positions.specs.declared.position.Position.{Position}

@@ -1,5 +1,6 @@
 -- The keys of a file that no setting has.
-use Rattle.iox2sd_config.specs.Prelude.{◌≡◌, ◌⊎◌, ◌≤◌, ◌<◌, ℕ, List, [], ◌++◌, map, flat_map, drop, length, Option, Some, None, string_bytes, code, Status, Note, topic_note, unknown, unknown_position, IsInOrder, Section, Position}
+use Rattle.std.specs.Prelude.{◌≡◌, ◌⊎◌, ◌≤◌, ◌<◌, ℕ, List, [], ◌++◌, map, flat_map, drop, length, Option, Some, None, string_bytes}
+use Rattle.iox2sd_config.specs.Prelude.{code, Status, Note, topic_note, unknown, unknown_position, IsInOrder, Section, Position}
 use Rattle.iox2_config_file.specs.Unknown.{Proposed, Unknown, unknown_view}
 use Rattle.iox2_config_file.specs.declared.proposal.Likeness.{Likeness}
 use Rattle.iox2_config_file.specs.declared.proposal.Likeness.TheVariants.{Spelling, OtherTable, Quoted, Near}

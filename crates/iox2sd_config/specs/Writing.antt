@@ -1,5 +1,6 @@
 -- Settings that a caller filled, as the text of a file.
-use Rattle.iox2sd_config.specs.Prelude.{◌≡◌, ◌⊎◌, ⊤, ℕ, Bool, if◌then◌else◌, nat_lt, List, [], ◌∷◌, length, take, replicate, Result, Ok, Err, IfOk, String, string_bytes, GlobalSettings, Config, ReadsBack, Writes, fit_status, code, Status, PlainConfig, PlainText, PlainTexts}
+use Rattle.std.specs.Prelude.{◌≡◌, ◌⊎◌, ⊤, ℕ, Bool, if◌then◌else◌, nat_lt, List, [], ◌∷◌, length, take, replicate, Result, Ok, Err, IfOk, String, string_bytes}
+use Rattle.iox2sd_config.specs.Prelude.{GlobalSettings, Config, ReadsBack, Writes, fit_status, code, Status, PlainConfig, PlainText, PlainTexts}
 use lib.Chars.{codes}
 use Rattle.std.specs.declared.alloc.Global.{Global}
 use Rattle.iox2_config.specs.declared.config.defaults.Defaults.{Defaults}

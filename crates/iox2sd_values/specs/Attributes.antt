@@ -1,5 +1,7 @@
 -- A caller's arrays of keys and values, and what a caller requires of a set of attributes.
-use Rattle.iox2sd_values.specs.Prelude.{Attribute, CountAnswer, IsName, Key, MakesName, PlaceAnswer, TextAnswer, ◌≡◌, ℕ, ◌+◌, ◌≤◌, List, Some, Result, Ok, Err, map, take, length, slice_get, All, IsPermutation, IsSorted, count_answer, place_answer, Reading, Returns, Refusal, IsListing, values_of, Pair, pair_cmp, IsFirst, ok_or}
+use Rattle.std.specs.Prelude.{◌≡◌, ℕ, ◌+◌, ◌≤◌, List, Some, Result, Ok, Err, map, take, length, slice_get, All, IsPermutation, IsSorted}
+use Rattle.std.specs.Option.{ok_or}
+use Rattle.iox2sd_values.specs.Prelude.{Attribute, CountAnswer, IsName, Key, MakesName, PlaceAnswer, TextAnswer, count_answer, place_answer, Reading, Returns, Refusal, IsListing, values_of, Pair, pair_cmp, IsFirst}
 use Rattle.iox2_texts.specs.VerifyErrors.{Verifies}
 use Rattle.iox2_texts.specs.declared.attribute.verifier.AttributeVerificationError.{AttributeVerificationError}
 use Rattle.iox2_texts.specs.declared.attribute.verifier.AttributeVerificationError.TheVariants.{NonExistingKey, IncompatibleAttribute}

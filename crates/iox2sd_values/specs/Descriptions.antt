@@ -1,5 +1,6 @@
 -- What is fixed of a service, as plain values, from its name and settings.
-use Rattle.iox2sd_values.specs.Prelude.{BlackboardConfig, BlackboardSettings, EventConfig, EventSettings, Field, FieldAnswer, IllegalText, PatternKind, PublishSubscribeConfig, PublishSubscribeSettings, ReadsBlackboard, ReadsEvent, ReadsPattern, ReadsPublishSubscribe, ReadsRequestResponse, RequestResponseConfig, RequestResponseSettings, blackboard_of, code, duration_of, event_of, field_answer, no_field, pattern_number, sha1_text, ◌≡◌, ◌↔◌, ℕ, IsTrue, Option, Some, None, Err, length, Bool, List, [], ◌∷◌, Result, Ok, flag_answer, zero_padded, c_duration, c_event_id, PublishSubscribe, RequestResponse, Refusal, Blackboard}
+use Rattle.std.specs.Prelude.{◌≡◌, ◌↔◌, ℕ, IsTrue, Option, Some, None, Err, length, Bool, List, [], ◌∷◌, Result, Ok}
+use Rattle.iox2sd_values.specs.Prelude.{BlackboardConfig, BlackboardSettings, EventConfig, EventSettings, Field, FieldAnswer, IllegalText, PatternKind, PublishSubscribeConfig, PublishSubscribeSettings, ReadsBlackboard, ReadsEvent, ReadsPattern, ReadsPublishSubscribe, ReadsRequestResponse, RequestResponseConfig, RequestResponseSettings, blackboard_of, code, duration_of, event_of, field_answer, no_field, pattern_number, sha1_text, flag_answer, zero_padded, c_duration, c_event_id, PublishSubscribe, RequestResponse, Refusal, Blackboard}
 use Rattle.iox2_static.specs.Description.{Description, Describes}
 use Rattle.iox2_static.specs.MessagingPattern.{kind_of}
 use Rattle.iox2_static.specs.declared.static_config.messaging_pattern.MessagingPattern.{MessagingPattern}

@@ -1,6 +1,7 @@
 -- Laws on which the other definitions rest: what a set is made of, and a comparison, are one.
 use Rattle.iox2sd_values.specs.Attributes.{OfSet, pair_of}
-use Rattle.iox2sd_values.specs.Prelude.{Attribute, FieldAnswer, ◌≡◌, List, map, IsListing, Pair}
+use Rattle.std.specs.Prelude.{◌≡◌, List, map}
+use Rattle.iox2sd_values.specs.Prelude.{Attribute, FieldAnswer, IsListing, Pair}
 
 -- the pairs make this set, and no other one
 abbrev pub MakesOneSet : List Attribute → List Pair → Type 0

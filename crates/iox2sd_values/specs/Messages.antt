@@ -1,6 +1,7 @@
 -- What a caller says of the parts of a message, where they lie, and which openers may use them.
 use Rattle.std.specs.Int.{is_power_of_two}
-use Rattle.iox2sd_values.specs.Prelude.{Status, code, end_code, ◌≡◌, ℕ, List, [], Option, Some, None, Result, Ok, Err, IsTrue, IsUtf8, ◌^◌, ◌<◌, ◌≤◌, OfGiven, Reading, Returns, OfNumber, TypeDetailParts}
+use Rattle.std.specs.Prelude.{◌≡◌, ℕ, List, [], Option, Some, None, Result, Ok, Err, IsTrue, IsUtf8, ◌^◌, ◌<◌, ◌≤◌}
+use Rattle.iox2sd_values.specs.Prelude.{Status, code, end_code, OfGiven, Reading, Returns, OfNumber, TypeDetailParts}
 use Rattle.iox2_config.specs.TypeDetails.{detail, message, MakesDetail}
 use Rattle.iox2_config.specs.declared.types.message_details.MessageTypeDetails.{MessageTypeDetails}
 use Rattle.iox2_config.specs.declared.types.type_detail.TypeDetailError.{TypeDetailError}

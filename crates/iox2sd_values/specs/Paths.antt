@@ -1,6 +1,8 @@
 -- Paths that are joined, where the system's files lie, and how they are called, where nothing else
 -- is said.
-use Rattle.iox2sd_values.specs.Prelude.{MakesJoined, PlaceAnswer, SemanticStringError, TextAnswer, default_node, default_service, ◌≡◌, ℕ, List, [], ◌∷◌, Result, Ok, Err, slice_get, Reading, ReportsText, Refusal, ok_or}
+use Rattle.std.specs.Prelude.{◌≡◌, ℕ, List, [], ◌∷◌, Result, Ok, Err, slice_get}
+use Rattle.std.specs.Option.{ok_or}
+use Rattle.iox2sd_values.specs.Prelude.{MakesJoined, PlaceAnswer, SemanticStringError, TextAnswer, default_node, default_service, Reading, ReportsText, Refusal}
 use lib.Chars.{codes}
 use Rattle.iox2sd_values.specs.Refusals.{MakesOr}
 use Rattle.iox2sd_values.specs.Texts.{ChecksFileName, ChecksPath, MakesFileName, MakesPath}

@@ -37,5 +37,3 @@ pub use Rattle.iox2_texts.specs.Verify.{Misses, IsFirst}
 pub use Rattle.iox2sd_common.specs.Answers.{OfGiven, Returns, count_answer, Written, flag_answer, zero_padded, place_answer, Reading, ReportsText}
 pub use Rattle.iox2sd_common.specs.Settings.{c_global, c_duration, c_event_id}
 pub use Rattle.iox2sd_values.specs.declared.refusals.Refusal.{Refusal}
-pub use Rattle.std.specs.Option.{ok_or}
-pub use Rattle.std.specs.Prelude.{◌≡◌, List, Result, Ok, Err, ℕ, Option, Some, None, false, ◌↔◌, IsTrue, length, Bool, [], ◌∷◌, map, ◌≢◌, true, MatchBool, nat_eq, ⊤, ◌⊎◌, ◌++◌, MatchOption, IsUtf8, ◌^◌, ◌<◌, ◌≤◌, slice_get, ◌+◌, take, All, IsPermutation, IsSorted}

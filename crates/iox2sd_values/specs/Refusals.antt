@@ -1,5 +1,6 @@
 -- Why an export refuses, and where a text is refused, what its check reports.
-use Rattle.iox2sd_values.specs.Prelude.{CountAnswer, FieldAnswer, PlaceAnswer, Status, TextAnswer, code, ◌≡◌, ℕ, List, Result, Ok, Err, Written, Refusal}
+use Rattle.std.specs.Prelude.{◌≡◌, ℕ, List, Result, Ok, Err}
+use Rattle.iox2sd_values.specs.Prelude.{CountAnswer, FieldAnswer, PlaceAnswer, Status, TextAnswer, code, Written, Refusal}
 use Rattle.iox2sd_values.specs.declared.refusals.Refusal.TheVariants as refusal
 
 -- the cause is the status that the check of the text answers

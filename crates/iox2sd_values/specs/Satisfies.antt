@@ -1,6 +1,7 @@
 -- Whether a service meets what an opener requires, reported by the first setting that it does not
 -- meet.
-use Rattle.iox2sd_values.specs.Prelude.{BlackboardConfig, EventConfig, EventSettings, Field, FieldAnswer, PublishSubscribeConfig, ReadsEvent, RequestResponseConfig, code, event_of, field_answer, no_field, ◌≡◌, ℕ, List, Option, Some, None, Result, OfGiven, Reading, PublishSubscribe, RequestResponse, default_details, Blackboard, default_detail}
+use Rattle.std.specs.Prelude.{◌≡◌, ℕ, List, Option, Some, None, Result}
+use Rattle.iox2sd_values.specs.Prelude.{BlackboardConfig, EventConfig, EventSettings, Field, FieldAnswer, PublishSubscribeConfig, ReadsEvent, RequestResponseConfig, code, event_of, field_answer, no_field, OfGiven, Reading, PublishSubscribe, RequestResponse, default_details, Blackboard, default_detail}
 use Rattle.iox2_static.specs.Requirements.{first_unmet}
 use Rattle.iox2_static.specs.Satisfies.{publish_subscribe_requirements, event_requirements, request_response_requirements, blackboard_requirements}
 use Rattle.iox2_static.specs.declared.static_config.event.StaticConfig.{StaticConfig as Event}

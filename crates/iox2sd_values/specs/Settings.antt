@@ -1,7 +1,8 @@
 -- Settings as plain values: those of a system where nothing else is said, whether those that a
 -- caller filled are valid, how many nodes and ports a service with them can have at a time, and how
 -- many chunks the data segment of a port needs.
-use Rattle.iox2sd_values.specs.Prelude.{BlackboardSettings, EventSettings, Field, FieldAnswer, IsDefaultGlobal, PublishSubscribeSettings, RequestResponseSettings, blackboard_of, field_answer, no_field, CountAnswer, ◌≡◌, List, Result, Ok, Err, ℕ, Option, Some, None, false, OfGiven, Returns, count_answer, c_global, PublishSubscribe, RequestResponse, default_details}
+use Rattle.std.specs.Prelude.{◌≡◌, List, Result, Ok, Err, ℕ, Option, Some, None, false}
+use Rattle.iox2sd_values.specs.Prelude.{BlackboardSettings, EventSettings, Field, FieldAnswer, IsDefaultGlobal, PublishSubscribeSettings, RequestResponseSettings, blackboard_of, field_answer, no_field, CountAnswer, OfGiven, Returns, count_answer, c_global, PublishSubscribe, RequestResponse, default_details}
 use Rattle.iox2sd_common.specs.declared.status.Status.TheVariants as status
 use Rattle.iox2sd_common.specs.declared.settings.GlobalSettings.{GlobalSettings}
 use Rattle.iox2sd_values.specs.declared.settings.BlackboardCapacities.{BlackboardCapacities}

@@ -1,7 +1,8 @@
 -- Whether texts are names, keys, values and paths, and which byte is wrong; the names of services,
 -- and their hash texts.
 use Rattle.std.specs.List.{starts_with}
-use Rattle.iox2sd_values.specs.Prelude.{EndsPlain, IsAllowed, IsPlain, IsRestricted, MakesLegal, MakesName, PlaceAnswer, SemanticStringError, is_restricted, IllegalText, MakesHash, MakesPublicName, MakesServiceName, PatternKind, ReadsPattern, hash_input, sha1_text, ◌≡◌, ◌≢◌, ℕ, Bool, false, true, List, [], Option, Some, None, Result, Ok, Err, IsTrue, MatchBool, nat_eq, ⊤, ◌⊎◌, ◌++◌, MatchOption, IsUtf8, place_answer, Reading, Refusal, Misses}
+use Rattle.std.specs.Prelude.{◌≡◌, ◌≢◌, ℕ, Bool, false, true, List, [], Option, Some, None, Result, Ok, Err, IsTrue, MatchBool, nat_eq, ⊤, ◌⊎◌, ◌++◌, MatchOption, IsUtf8}
+use Rattle.iox2sd_values.specs.Prelude.{EndsPlain, IsAllowed, IsPlain, IsRestricted, MakesLegal, MakesName, PlaceAnswer, SemanticStringError, is_restricted, IllegalText, MakesHash, MakesPublicName, MakesServiceName, PatternKind, ReadsPattern, hash_input, sha1_text, place_answer, Reading, Refusal, Misses}
 use lib.Chars.{codes}
 use Rattle.iox2_texts.specs.Text.{IsTextByte}
 use Rattle.iox2_texts.specs.declared.bounded.SemanticStringError.TheVariants.{InvalidContent, ExceedsMaximumLength}
