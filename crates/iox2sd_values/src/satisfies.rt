@@ -44,9 +44,7 @@ fn satisfied(unmet: Option<Setting>) -> FieldAnswer
 }
 
 /// What is fixed of a publish-subscribe service, beside the types of its messages.
-pub(super) fn fixed_publish_subscribe(
-    config: &PublishSubscribeConfig,
-) -> publish_subscribe::StaticConfig
+fn fixed_publish_subscribe(config: &PublishSubscribeConfig) -> publish_subscribe::StaticConfig
     ensures { result ≡ fixed_publish_subscribe config.now }
 {
     publish_subscribe::StaticConfig {
@@ -135,9 +133,7 @@ pub extern "C" fn iox2sd_event_satisfies_at(
 }
 
 /// What is fixed of a request-response service, beside the types of its messages.
-pub(super) fn fixed_request_response(
-    config: &RequestResponseConfig,
-) -> request_response::StaticConfig
+fn fixed_request_response(config: &RequestResponseConfig) -> request_response::StaticConfig
     ensures { result ≡ fixed_request_response config.now }
 {
     request_response::StaticConfig {

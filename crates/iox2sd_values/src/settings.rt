@@ -16,10 +16,9 @@ ghost use Rattle.iox2_static.specs.PublishSubscribe.{sample_limits};
 ghost use Rattle.iox2_static.specs.RequestResponse.{client_limits, server_limits};
 ghost use Rattle.iox2sd_values.specs.Settings.{Counts, counted, publish_subscribe, request_response};
 
-use super::descriptions::{PublishSubscribeConfig, RequestResponseConfig};
-use super::satisfies::{fixed_publish_subscribe, fixed_request_response};
 use iox2_config::config::{Blackboard, Event, Node, PublishSubscribe, RequestResonse, Service};
-use iox2_static::static_config::blackboard;
+use iox2_config::types::MessageTypeDetails;
+use iox2_static::static_config::{blackboard, publish_subscribe, request_response};
 use iox2sd_common::answers::{CountAnswer, count};
 use iox2sd_common::given_or_return;
 use iox2sd_common::read_settings::{
@@ -274,13 +273,16 @@ pub extern "C" fn iox2sd_required_amount_of_samples_per_data_segment(
     ensures { Counts (sample_limits (publish_subscribe max_subscribers subscriber_max_buffer_size
         subscriber_max_borrowed_samples history_size) loaned_samples) result }
 {
-    let config = fixed_publish_subscribe(&PublishSubscribeConfig {
+    let config = publish_subscribe::StaticConfig {
         max_subscribers,
+        max_publishers: 0,
+        max_nodes: 0,
         history_size,
         subscriber_max_buffer_size,
         subscriber_max_borrowed_samples,
-        ..PublishSubscribeConfig::default()
-    });
+        enable_safe_overflow: false,
+        message_type_details: MessageTypeDetails::default(),
+    };
     chunks(config.required_amount_of_samples_per_data_segment(loaned_samples))
 }
 
@@ -298,11 +300,20 @@ pub extern "C" fn iox2sd_required_amount_of_chunks_per_client_data_segment(
         (request_response max_servers 0 max_active_requests_per_client 0 0)
         loaned_requests) result }
 {
-    let config = fixed_request_response(&RequestResponseConfig {
+    let config = request_response::StaticConfig {
+        enable_safe_overflow_for_requests: false,
+        enable_safe_overflow_for_responses: false,
+        enable_fire_and_forget_requests: false,
         max_active_requests_per_client,
+        max_loaned_requests: 0,
+        max_response_buffer_size: 0,
         max_servers,
-        ..RequestResponseConfig::default()
-    });
+        max_clients: 0,
+        max_nodes: 0,
+        max_borrowed_responses_per_pending_response: 0,
+        request_message_type_details: MessageTypeDetails::default(),
+        response_message_type_details: MessageTypeDetails::default(),
+    };
     chunks(config.required_amount_of_chunks_per_client_data_segment(loaned_requests))
 }
 
@@ -322,12 +333,19 @@ pub extern "C" fn iox2sd_required_amount_of_chunks_per_server_data_segment(
         0 max_clients max_active_requests_per_client max_response_buffer_size
         max_borrowed_responses_per_pending_response) loaned_responses) result }
 {
-    let config = fixed_request_response(&RequestResponseConfig {
+    let config = request_response::StaticConfig {
+        enable_safe_overflow_for_requests: false,
+        enable_safe_overflow_for_responses: false,
+        enable_fire_and_forget_requests: false,
         max_active_requests_per_client,
+        max_loaned_requests: 0,
         max_response_buffer_size,
+        max_servers: 0,
         max_clients,
+        max_nodes: 0,
         max_borrowed_responses_per_pending_response,
-        ..RequestResponseConfig::default()
-    });
+        request_message_type_details: MessageTypeDetails::default(),
+        response_message_type_details: MessageTypeDetails::default(),
+    };
     chunks(config.required_amount_of_chunks_per_server_data_segment(loaned_responses))
 }
