@@ -7,7 +7,7 @@ use std::io;
 use std::io::{ErrorKind, Write};
 use std::process::Abort;
 use std::time::{Clock, Duration};
-use test_support::failing_streams::{Calls, Sink, Streams};
+use test_support::failing_streams::{Calls, Sink, Source};
 
 /// A clock that is so many milliseconds later each time that it is looked at.
 #[derive(Drop)]
@@ -55,7 +55,9 @@ fn long_log(alloc: Global) -> Result<Vec<u8>, AllocError> {
 
 /// What is shown of how far a log is read, by a clock of this step.
 fn shown(alloc: Global, log: &[u8], step: u64, is_terminal: bool, failing: Option<u64>) -> Sink {
-    let mut streams = Streams::steady(alloc, log, [4096, 20]);
+    let mut input = Source::new(log, 4096, Calls::failing_at(None, ErrorKind::Other));
+    let mut output = Sink::new(alloc, 20, Calls::failing_at(None, ErrorKind::Other));
+    let mut errors = Sink::new(alloc, 20, Calls::failing_at(None, ErrorKind::Other));
     let mut terminal = Sink::new(alloc, 20, Calls::failing_at(failing, ErrorKind::Other));
     let clock = Ticks {
         now: Cell::new(0),
@@ -67,9 +69,9 @@ fn shown(alloc: Global, log: &[u8], step: u64, is_terminal: bool, failing: Optio
     let mut counts = Counts::new(alloc, clock, out, is_terminal);
     let _status = check_streams(
         alloc,
-        &mut streams.input,
-        &mut streams.output,
-        &mut streams.errors,
+        &mut input,
+        &mut output,
+        &mut errors,
         &mut counts,
         Report::Verdict,
     );

@@ -1,9 +1,22 @@
 //! Logs that come from streams.
 
 use history_logs::logs::{NoProgress, Report, check_streams};
+use std::alloc::Global;
 use std::io::ErrorKind;
 use std::process::Abort;
 use test_support::failing_streams::Streams;
+
+/// The status of a run on these streams.
+fn status_on(alloc: Global, streams: &mut Streams) -> u8 {
+    check_streams(
+        alloc,
+        &mut streams.input,
+        &mut streams.output,
+        &mut streams.errors,
+        &mut NoProgress,
+        Report::Verdict,
+    )
+}
 
 /// On a log, with these failures, the program ends with this status, output and errors.
 fn ends(
@@ -14,14 +27,7 @@ fn ends(
 ) {
     let (alloc, pieces) = (rt.alloc(), [40, 20]);
     let mut streams = Streams::failing_at(alloc, log.as_bytes(), pieces, failing, ErrorKind::Other);
-    let ended = check_streams(
-        alloc,
-        &mut streams.input,
-        &mut streams.output,
-        &mut streams.errors,
-        &mut NoProgress,
-        Report::Verdict,
-    );
+    let ended = status_on(alloc, &mut streams);
     assert_eq!(rt;
         (
             log,

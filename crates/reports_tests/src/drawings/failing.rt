@@ -7,6 +7,18 @@ use std::io::ErrorKind;
 use std::test::Fail;
 use test_support::failing_streams::Streams;
 
+/// The status of a run on these streams.
+fn status_on(alloc: Global, streams: &mut Streams) -> Result<u8, AllocError> {
+    let words = Ok(arguments(alloc, "iox2-describe", &[])?);
+    Ok(describe_streams(
+        alloc,
+        words,
+        &mut streams.input,
+        &mut streams.output,
+        &mut streams.errors,
+    ))
+}
+
 /// The status of a run where each stream fails at the
 /// call of its own number, and how many calls each had.
 fn run(
@@ -14,16 +26,9 @@ fn run(
     input: &str,
     failing: [Option<u64>; 3],
 ) -> Result<(u8, [u64; 3]), AllocError> {
-    let words = Ok(arguments(alloc, "iox2-describe", &[])?);
     let (text, kind) = (input.as_bytes(), ErrorKind::Interrupted);
     let mut streams = Streams::failing_at(alloc, text, [40, 200], failing, kind);
-    let status = describe_streams(
-        alloc,
-        words,
-        &mut streams.input,
-        &mut streams.output,
-        &mut streams.errors,
-    );
+    let status = status_on(alloc, &mut streams)?;
     Ok((status, streams.made()))
 }
 

@@ -8,12 +8,10 @@ use std::io::ErrorKind;
 use std::test::Fail;
 use test_support::failing_streams::Streams;
 
-/// The status of a run on an empty input and a file that is not there, where each stream fails at
-/// the call of its own number, and how many calls each had.
-fn run(alloc: Global, failing: [Option<u64>; 3]) -> Result<(u8, [u64; 3]), AllocError> {
+/// The status of a run on these streams and a file that is not there.
+fn status_on(alloc: Global, streams: &mut Streams) -> Result<u8, AllocError> {
     let words = Ok(arguments(alloc, "iox2-check", &["-", "x"])?);
-    let mut streams = Streams::failing_at(alloc, b"", [40, 12], failing, ErrorKind::Interrupted);
-    let status = check_streams(
+    Ok(check_streams(
         alloc,
         false,
         words,
@@ -21,7 +19,14 @@ fn run(alloc: Global, failing: [Option<u64>; 3]) -> Result<(u8, [u64; 3]), Alloc
         &mut streams.input,
         &mut streams.output,
         &mut streams.errors,
-    );
+    ))
+}
+
+/// The status of a run on an empty input and a file that is not there, where each stream fails at
+/// the call of its own number, and how many calls each had.
+fn run(alloc: Global, failing: [Option<u64>; 3]) -> Result<(u8, [u64; 3]), AllocError> {
+    let mut streams = Streams::failing_at(alloc, b"", [40, 12], failing, ErrorKind::Interrupted);
+    let status = status_on(alloc, &mut streams)?;
     Ok((status, streams.made()))
 }
 

@@ -25,7 +25,7 @@ fn settings_are_shown_with_what_follows(rt: HostRuntime) -> Result<(), Fail> {
 /// Whether the bytes have this part.
 fn has_part(bytes: &[u8], part: &str) -> bool {
     bytes
-        .windows(part.len())
+        .windows(part.len().max(1))
         .any(|piece| piece == part.as_bytes())
 }
 
