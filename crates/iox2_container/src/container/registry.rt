@@ -223,7 +223,7 @@ pub trait Registry<T: Attached + Copy> {
         ensures kept { IsRegistry (state self.now).registry };
 }
 
-/// The details in a registry, by rising slot. The list has room for exactly them; refused where
+/// The details in a registry, by rising slot. The list has capacity for exactly them; refused where
 /// there is no memory for it.
 pub fn entries<T: Attached + Copy, R: Registry<T>>(
     alloc: Global,

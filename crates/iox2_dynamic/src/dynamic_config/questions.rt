@@ -97,8 +97,8 @@ impl DynamicConfig {
         of_any_pattern!(&self.pattern, ports => ports.get(handle))
     }
 
-    /// The ids of the nodes by rising slot, one for each handle. The list has room for exactly them;
-    /// refused where there is no memory for it.
+    /// The ids of the nodes by rising slot, one for each handle. The list has capacity for exactly
+    /// them; refused where there is no memory for it.
     pub fn nodes(&self, alloc: Global) -> Result<Vec<UniqueNodeId>, AllocError>
         ensures listed { IfOk result (λ ids. ids.items ≡ listed self.now.nodes.registry) }
         ensures exact { IfOk result (λ ids. vec_capacity ids ≡ length ids.items) }
@@ -108,7 +108,7 @@ impl DynamicConfig {
     }
 
     /// The ports of the role by rising slot; `None` where the pattern has no such ports. The list
-    /// has room for exactly them; refused where there is no memory for it.
+    /// has capacity for exactly them; refused where there is no memory for it.
     pub fn ports(&self, alloc: Global, role: Role) -> Result<Option<Vec<PortDetails>>, AllocError>
         ensures listed { IfOk result (OfRole (λ r list. list.items ≡ listed r)
             (first_role self.now.pattern) (second_role self.now.pattern) self.now.ports role) }
@@ -120,8 +120,8 @@ impl DynamicConfig {
     }
 
     /// The ports of the node, by its whole id, in the order of `remove_dead_node_id`: those of the
-    /// pattern's first kind before those of its second, each kind by rising slot. The list has room
-    /// for exactly them; refused where there is no memory for it.
+    /// pattern's first kind before those of its second, each kind by rising slot. The list has
+    /// capacity for exactly them; refused where there is no memory for it.
     pub fn ports_of(
         &self,
         alloc: Global,
