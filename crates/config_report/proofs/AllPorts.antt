@@ -1,10 +1,9 @@
 -- How many chunks all ports of a kind can have in use at once.
-use Rattle.std.proofs.Common.{◌≡◌, ◌∙◌, ◌*◌, ◌<◌, ◌≤◌, ◌^◌, ℕ, zero, suc, List, Option, Some, None, sum, ap, refl, sym, arith}
 use Rattle.std.specs.Option.{SomeIff}
 use Rattle.std.proofs.lemmas.List.Sums.{sum_by-append}
+use Rattle.config_report.proofs.Prelude.{◌≡◌, ◌∙◌, ◌*◌, ◌<◌, ◌≤◌, ◌^◌, ℕ, zero, suc, List, Option, Some, None, sum, ap, refl, sym, arith, all_limits}
 use Rattle.iox2_static.proofs.Greatest.{tells}
 use Rattle.iox2_static.specs.Chunks.{IsGreatest, ReportsGreatest}
-use Rattle.config_report.specs.Text.{all_limits}
 
 -- no two numbers are the greatest
 at_most : (limits : List ℕ) (c d : ℕ) → IsGreatest limits c → IsGreatest limits d → c ≤ d

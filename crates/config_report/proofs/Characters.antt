@@ -1,25 +1,14 @@
 -- Texts whose control characters are escaped: how one is written, and that all that is found stands
 -- in one line each.
-use Rattle.std.proofs.Common.{◌∷◌, ◌/◌, ◌%◌, ◌==◌, IsUtf8, length, flat_map, chars, zero, suc, append_assoc, append-nil, arith, ◌≡◌, ◌++◌, ◌&&◌, if◌then◌else◌, Bool, true, false, List, [], ℕ, Option, Some, None, option_map, map, get_or, refl, inl, inr, subst, sym}
 use Rattle.std.specs.Char.{encode_utf8, is_control}
 use Rattle.std.specs.Fmt.{digit_glyph, digits, digits_onto}
 use Rattle.std.specs.List.{All}
-use Rattle.std.specs.Prelude.{nat_le, codes}
-use Rattle.std.proofs.lemmas.Bool.Decides.{nat_tests}
 use Rattle.std.proofs.lemmas.List.Folds.{list_all-append}
-use Rattle.std.proofs.lemmas.Str.{chars-nil, chars_past_char}
-use Rattle.std.proofs.lemmas.List.{get_or-map, length-map}
 use Rattle.std.proofs.lemmas.List.Elements.{All-append, All-cons, All-map, All-nil, All-same}
-use Rattle.std.proofs.lemmas.List.Sorted.{All-permutation}
-use Rattle.config_report.specs.Contradictions.{Contradiction, Side, contradiction_note, positioned_note, side_note}
-use Rattle.config_report.specs.Findings.{Checks, AreInLine, is_in_line, key_in_line, IsNoFile, error_behind, topics_in}
-use Rattle.config_report.specs.Printable.{printable, printable_char}
+use Rattle.config_report.proofs.Prelude.{◌∷◌, ◌/◌, ◌%◌, ◌==◌, IsUtf8, length, flat_map, chars, zero, suc, append_assoc, append-nil, arith, ◌≡◌, ◌++◌, ◌&&◌, if◌then◌else◌, Bool, true, false, List, [], ℕ, Option, Some, None, option_map, map, get_or, refl, inl, inr, subst, sym, nat_le, codes, nat_tests, chars-nil, chars_past_char, get_or-map, length-map, All-permutation, Contradiction, Side, contradiction_note, positioned_note, side_note, Checks, AreInLine, is_in_line, key_in_line, IsNoFile, error_behind, topics_in, printable_char, reason_text, prefix_of, beside_text, is_later, side_position, has_no_control, in_line, meant_text, Note, Topic, fault, unknown, note, note_in, topic_note, topic_position, finding_view}
+use Rattle.config_report.specs.Printable.{printable}
 use Rattle.config_report.specs.declared.finding.Severity.TheVariants.{Error, Warning}
-use Rattle.iox2_config_file.specs.Read.{reason_text}
-use Rattle.iox2_config_file.specs.Settings.{prefix_of}
 use Rattle.toml_writer.specs.Text.{key_text}
-use Rattle.config_report.specs.Contradictions.{beside_text, is_later, side_position}
-use Rattle.config_report.specs.Notes.{has_no_control, in_line, meant_text, Note, Topic, fault, unknown, note, note_in, topic_note, topic_position, finding_view}
 use Rattle.config_report.specs.declared.contradiction.Effect.{Effect}
 use Rattle.config_report.specs.declared.finding.Finding.{Finding}
 use Rattle.config_report.specs.declared.finding.Findings.{Findings}

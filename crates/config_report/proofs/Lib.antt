@@ -2,3 +2,4 @@ mod AllPorts
 pub mod Characters
 pub mod Lines
 pub mod Pairs
+mod Prelude

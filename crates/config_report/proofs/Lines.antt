@@ -1,7 +1,5 @@
 -- Lists that are made one item after the other.
-use Rattle.std.proofs.Common.{◌≡◌, ℕ, zero, suc, ◌+◌, ◌≤◌, ◌<◌, List, [], ◌∷◌, ◌++◌, length, map, drop, get_or, refl, sym, ap, ◌∙◌, add-one, append_assoc, append-nil, arith, drop-cons, drop_of_length-le}
-use Rattle.std.specs.Prelude.{flat_map}
-use Rattle.std.proofs.lemmas.List.{map-append}
+use Rattle.config_report.proofs.Prelude.{◌≡◌, ℕ, zero, suc, ◌+◌, ◌≤◌, ◌<◌, List, [], ◌∷◌, ◌++◌, length, map, drop, get_or, refl, sym, ap, ◌∙◌, add-one, append_assoc, append-nil, arith, drop-cons, drop_of_length-le, flat_map, map-append}
 
 -- one text is written after another, or one list added
 pub then : {A : Type 0} (out mid new first second : List A) → mid ≡ out ++ first

@@ -1,18 +1,11 @@
 -- The settings of two configurations, one after the other, and when two values are the same.
-use Rattle.std.proofs.Common.{◌≡◌, Bool, ℕ, zero, suc, ◌+◌, ◌≤◌, List, [], ◌∷◌, ◌++◌, length, map, drop, slice_get, Option, Some, None, refl, sym, add-one, append_assoc, append-nil, arith, length-append}
 use Rattle.std.specs.Bool.{Decides}
-use Rattle.std.specs.Prelude.{flat_map}
-use Rattle.std.proofs.lemmas.Bool.Decides.{nat_tests, same_from_decides}
 use Rattle.std.proofs.lemmas.Slice.Eq.{bytes_eq-Decides}
-use Rattle.std.proofs.lemmas.List.{length-map}
-use Rattle.std.proofs.lemmas.Option.{none-some, slice_get_past}
+use Rattle.config_report.proofs.Prelude.{◌≡◌, Bool, ℕ, zero, suc, ◌+◌, ◌≤◌, List, [], ◌∷◌, ◌++◌, length, map, drop, slice_get, Option, Some, None, refl, sym, add-one, append_assoc, append-nil, arith, length-append, flat_map, nat_tests, same_from_decides, length-map, none-some, slice_get_past, row_view, Setting, held_at, ValuePair, is_same, paired}
 use Rattle.iox2_config_file.specs.declared.fault.Kind.{Kind}
 use Rattle.iox2_config_file.specs.declared.section.Row.{Row}
-use Rattle.iox2_config_file.specs.Read.{row_view}
-use Rattle.iox2_config_file.specs.Settings.{Setting, held_at}
 use Rattle.iox2_config_file.specs.Values.{SettingValue}
 use Rattle.iox2_config_file.proofs.Rowed.{drop_at, here, keyed, row_key}
-use Rattle.config_report.specs.Text.{ValuePair, is_same, paired}
 
 abbrev pub make_pair : List ℕ → SettingValue → SettingValue → ValuePair
 make_pair key value other = record { key = key; value = value; other = other }

@@ -1,17 +1,9 @@
 -- Which settings of a configuration contradict each other, and what is said of them.
 use Rattle.std.specs.Prelude.{ℕ, ◌+◌, Bool, true, false, not, ◌&&◌, ◌||◌, nat_eq, nat_lt, if◌then◌else◌, List, [], ◌∷◌, ◌++◌, codes, length, flat_map, Option, Some, None}
-use Rattle.std.specs.Str.{bytes_eq}
+use Rattle.config_report.specs.Prelude.{bytes_eq, Config, Defaults, Service, prefix_of, table_path, SettingValue, number, text, value_text, value_view, Section, Warning, Position}
 use Rattle.iox2_config.specs.GlobalSettings.{GlobalSettings}
-use Rattle.iox2_config.specs.declared.config.Config.{Config}
-use Rattle.iox2_config.specs.declared.config.defaults.Defaults.{Defaults}
 use Rattle.iox2_config.specs.declared.config.defaults.Event.{Event}
 use Rattle.iox2_config.specs.declared.config.defaults.PublishSubscribe.{PublishSubscribe}
-use Rattle.iox2_config.specs.declared.config.global.Service.{Service}
-use Rattle.iox2_config_file.specs.Settings.{prefix_of, table_path}
-use Rattle.iox2_config_file.specs.Values.{SettingValue, number, text}
-use Rattle.iox2_config_file.specs.Write.{value_text, value_view}
-use Rattle.iox2_config_file.specs.declared.section.Section.{Section}
-use Rattle.iox2_config_file.specs.declared.section.Section.TheVariants as section
 use Rattle.config_report.specs.Notes.{Note, note, position_for}
 use Rattle.config_report.specs.declared.contradiction.Contradiction.{Contradiction as Held}
 use Rattle.config_report.specs.declared.contradiction.Effect.{Effect}
@@ -19,8 +11,7 @@ use Rattle.config_report.specs.declared.contradiction.Effect.TheVariants.{Unsent
 use Rattle.config_report.specs.declared.contradiction.Side.{Side as HeldSide}
 use Rattle.config_report.specs.declared.contradictions.Candidate.{Candidate}
 use Rattle.config_report.specs.declared.contradictions.Suffix.{Suffix}
-use Rattle.config_report.specs.declared.finding.Severity.TheVariants.{Warning}
-use Rattle.toml_positions.specs.declared.position.Position.{Position}
+use Rattle.iox2_config_file.specs.declared.section.Section.TheVariants as section
 
 -- a setting: its table, its key and its value
 abbrev pub Side : Type 0

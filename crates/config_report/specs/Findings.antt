@@ -1,29 +1,20 @@
 -- What is found in a file of settings, in which order it is listed, and what is reported of it.
 use Rattle.std.specs.Prelude.{◌≡◌, ◌≤◌, ◌⊎◌, ℕ, List, codes, length, take, Some, None, IsSome, IsUtf8, ⊤, ◌-◌, ◌^◌, [], ◌∷◌, ◌++◌, map, flat_map, Option, Bool, true, ◌&&◌, Result, Ok, Err, string_bytes}
-use Rattle.std.specs.Str.{IsValidUpTo}
+use Rattle.std.specs.List.Sorted.{IsPermutation, IsSortedByKey, IsStableByKey}
+use Rattle.std.specs.Ordering.{nat_cmp, ordering_then}
+use Rattle.std.specs.declared.cmp.Ordering.{Ordering}
+use Rattle.config_report.specs.Prelude.{IsValidUpTo, Error, IsDefaultConfig, Config, fault_view, faults_in, unknown_in, unknown_view, Finding, Position, All, IsConfigText}
 use Rattle.iox2_config_file.specs.Depth.{too_deep}
 use Rattle.config_report.specs.Notes.{Note, finding_view, note, Topic, fault, unknown, note_in, note_text, has_no_control}
-use Rattle.config_report.specs.declared.finding.Severity.TheVariants.{Error}
 use Rattle.config_report.specs.declared.check.Unread.{Unread}
 use Rattle.config_report.specs.declared.check.Unread.TheVariants.{NotUtf8, TooDeep, NotToml, NoMemory}
 use Rattle.toml.specs.Parse.{parse_document}
 use Rattle.toml_positions.specs.Position.{position_after}
-use Rattle.std.specs.List.Sorted.{IsPermutation, IsSortedByKey, IsStableByKey}
-use Rattle.std.specs.Ordering.{nat_cmp, ordering_then}
-use Rattle.std.specs.declared.cmp.Ordering.{Ordering}
-use Rattle.iox2_config.specs.Defaults.{IsDefaultConfig}
-use Rattle.iox2_config.specs.declared.config.Config.{Config}
 use Rattle.iox2_config_file.specs.Answers.{IsConfigOf}
-use Rattle.iox2_config_file.specs.Read.{fault_view, faults_in}
-use Rattle.iox2_config_file.specs.Unknown.{unknown_in, unknown_view}
 use Rattle.iox2_config_file.specs.declared.read.FileContents.{FileContents}
 use Rattle.config_report.specs.Contradictions.{contradiction_note, contradictions_in}
-use Rattle.config_report.specs.declared.finding.Finding.{Finding}
 use Rattle.config_report.specs.declared.finding.Findings.{Findings}
 use Rattle.toml.specs.Data.{Members}
-use Rattle.toml_positions.specs.declared.position.Position.{Position}
-use Rattle.std.specs.List.{All}
-use Rattle.iox2_config_file.specs.Write.{IsConfigText}
 use Rattle.config_report.specs.declared.check.FileConfig.{FileConfig}
 use Rattle.config_report.specs.declared.check.ReportError.{ReportError}
 use Rattle.config_report.specs.declared.check.ReportError.TheVariants as refusal

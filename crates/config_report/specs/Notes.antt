@@ -1,18 +1,11 @@
 -- What is said of a file of settings, and where in it the keys stand.
 use Rattle.std.specs.Prelude.{ℕ, List, [], ◌∷◌, ◌++◌, codes, length, nat_le, if◌then◌else◌, Option, Some, None, Bool, option_map, string_bytes}
-use Rattle.std.specs.Fmt.{decimal}
-use Rattle.toml_positions.specs.declared.position.Position.{Position}
+use Rattle.config_report.specs.Prelude.{decimal, Position, list_all, reason_text, Located, fault_view, Proposed, Unknown, unknown_view, prefix_of, table_path, Finding, Error, Warning}
 use Rattle.toml_positions.specs.Written.{position_in}
-use Rattle.std.specs.List.{list_all}
-use Rattle.iox2_config_file.specs.Read.{reason_text, Located, fault_view}
-use Rattle.iox2_config_file.specs.Unknown.{Proposed, Unknown, unknown_view}
-use Rattle.iox2_config_file.specs.Settings.{prefix_of, table_path}
 use Rattle.iox2_config_file.specs.declared.fault.SettingFault.{SettingFault}
 use Rattle.iox2_config_file.specs.declared.proposal.Likeness.TheVariants.{Quoted}
 use Rattle.iox2_config_file.specs.declared.unknown.UnknownKey.{UnknownKey}
-use Rattle.config_report.specs.declared.finding.Finding.{Finding}
 use Rattle.config_report.specs.declared.finding.Severity.{Severity}
-use Rattle.config_report.specs.declared.finding.Severity.TheVariants.{Error, Warning}
 use Rattle.config_report.specs.Printable.{printable}
 use Rattle.toml_writer.specs.Text.{key_text}
 

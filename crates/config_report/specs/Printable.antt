@@ -1,8 +1,7 @@
 -- Texts without control characters, so that each stands in one line.
 use Rattle.std.specs.Prelude.{ℕ, false, List, ◌++◌, codes, flat_map, if◌then◌else◌, encode_utf8}
-use Rattle.std.specs.Str.{chars}
 use Rattle.std.specs.Char.{is_control}
-use Rattle.std.specs.Fmt.{digits}
+use Rattle.config_report.specs.Prelude.{chars, digits}
 
 -- a character, or `\u{..}` with its code where it is a control character
 abbrev pub printable_char : ℕ → List ℕ

@@ -1,27 +1,17 @@
 -- The text of settings, and of what follows from them.
 use Rattle.std.specs.Prelude.{◌≡◌, ℕ, Bool, true, false, not, bytes_eq, nat_eq, List, [], ◌∷◌, ◌++◌, replicate, ◌-◌, ◌^◌, codes, flat_map, length, nat_lt, if◌then◌else◌, Option, Some, None}
-use Rattle.iox2_config.specs.declared.config.Config.{Config}
+use Rattle.config_report.specs.Prelude.{Config, Section, Setting, prefix_of, settings_in, SettingValue, concat, Defaults, decimal, padded, format_spec, IsDefaultConfig, Service, sections, value_text, value_view}
 use Rattle.iox2_config.specs.declared.config.choices.AllocationStrategy.TheVariants.{BestFit, PowerOfTwo, Static}
 use Rattle.iox2_config.specs.declared.config.choices.BackpressureStrategy.TheVariants.{RetryUntilDelivered, DiscardData}
-use Rattle.iox2_config_file.specs.declared.section.Section.{Section}
-use Rattle.iox2_config_file.specs.Settings.{Setting, prefix_of, settings_in}
-use Rattle.iox2_config_file.specs.Values.{SettingValue}
-use Rattle.iox2_config_file.specs.Values as values
-use Rattle.std.specs.List.{concat}
-use Rattle.iox2_config.specs.declared.config.defaults.Defaults.{Defaults}
 use Rattle.iox2_static.specs.PublishSubscribe.{publish_subscribe_of, sample_limits}
 use Rattle.iox2_static.specs.RequestResponse.{request_response_of, client_limits, server_limits}
-use Rattle.std.specs.Fmt.{decimal, padded, format_spec}
-use Rattle.iox2_config.specs.Defaults.{IsDefaultConfig}
 use Rattle.iox2_config.specs.declared.config.global.Node.{Node}
-use Rattle.iox2_config.specs.declared.config.global.Service.{Service}
-use Rattle.iox2_config_file.specs.Read.{sections}
-use Rattle.iox2_config_file.specs.Write.{value_text, value_view}
 use Rattle.iox2_static.specs.Chunks.{ReportsGreatest}
 use Rattle.iox2_texts.specs.Path.{join}
 use Rattle.config_report.specs.Printable.{printable_line}
 use Rattle.config_report.specs.declared.text.FileKind.{FileKind}
 use Rattle.config_report.specs.declared.text.ValuePair.{ValuePair as HeldPair}
+use Rattle.iox2_config_file.specs.Values as values
 
 -- the values are equal
 abbrev pub is_same : SettingValue → SettingValue → Bool

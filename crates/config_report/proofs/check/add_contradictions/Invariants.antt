@@ -1,8 +1,4 @@
-use Rattle.std.proofs.Common.{◌≡◌, ◌++◌, drop}
-use Rattle.std.specs.Prelude.{IsSome, map}
-use Rattle.config_report.specs.Contradictions.{contradiction_note, contradiction_view}
-use Rattle.config_report.specs.Notes.{finding_view}
-use Rattle.toml.specs.Parse.{parse_document}
+use Rattle.config_report.proofs.Prelude.{◌≡◌, ◌++◌, drop, IsSome, map, contradiction_note, contradiction_view, finding_view, parse_document}
 use Rattle.config_report.proofs.check.add_contradictions.Given as goal
 
 abbrev pub invariant-loop-contradiction : goal.invariant-loop-contradiction

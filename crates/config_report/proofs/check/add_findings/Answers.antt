@@ -1,6 +1,5 @@
-use Rattle.std.proofs.Common.{None, arith, ◌∙◌}
+use Rattle.config_report.proofs.Prelude.{None, arith, ◌∙◌, finding_view, topic_note, topic_position}
 use Rattle.config_report.proofs.Lines.{one_positioned}
-use Rattle.config_report.specs.Notes.{finding_view, topic_note, topic_position}
 use Rattle.config_report.proofs.check.add_findings.Goals as goal
 
 pub loop-subject-preserved : goal.loop-subject-preserved

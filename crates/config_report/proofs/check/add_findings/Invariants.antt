@@ -1,7 +1,4 @@
-use Rattle.std.proofs.Common.{◌≡◌, ◌++◌, IsSome, drop}
-use Rattle.std.specs.Prelude.{map}
-use Rattle.toml.specs.Parse.{parse_document}
-use Rattle.config_report.specs.Notes.{finding_view, note_in}
+use Rattle.config_report.proofs.Prelude.{◌≡◌, ◌++◌, IsSome, drop, map, parse_document, finding_view, note_in}
 use Rattle.config_report.proofs.check.add_findings.Given as goal
 
 abbrev pub invariant-loop-subject : goal.invariant-loop-subject

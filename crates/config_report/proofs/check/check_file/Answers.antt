@@ -1,6 +1,4 @@
-use Rattle.std.proofs.Common.{◌++◌, ◌∙◌, [], ◌∷◌, ap, inl, refl}
-use Rattle.std.specs.Prelude.{map}
-use Rattle.config_report.specs.Notes.{finding_view}
+use Rattle.config_report.proofs.Prelude.{◌++◌, ◌∙◌, [], ◌∷◌, ap, inl, refl, map, finding_view}
 use Rattle.config_report.proofs.check.check_file.Goals as goal
 
 pub returns-in_ok-push-in-Err : goal.returns-in_ok-push-in-Err

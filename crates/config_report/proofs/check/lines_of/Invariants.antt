@@ -1,5 +1,4 @@
-use Rattle.std.proofs.Common.{◌≡◌, ◌++◌, drop, string_bytes}
-use Rattle.config_report.specs.Findings.{lines_of}
+use Rattle.config_report.proofs.Prelude.{◌≡◌, ◌++◌, drop, string_bytes, lines_of}
 use Rattle.config_report.proofs.check.lines_of.Given as goal
 
 abbrev pub invariant-loop-finding : goal.invariant-loop-finding

@@ -1,13 +1,6 @@
-use Rattle.std.proofs.Common.{◌≡◌, ◌++◌, ◌∙◌, ap, append_assoc, arith, refl, rules}
-use Rattle.std.specs.Prelude.{map}
-use Rattle.std.proofs.lemmas.List.{map-append}
-use Rattle.std.proofs.lemmas.List.Sorted.{answers_always}
-use Rattle.iox2_config_file.specs.Read.{fault_view}
+use Rattle.config_report.proofs.Prelude.{◌≡◌, ◌++◌, ◌∙◌, ap, append_assoc, arith, refl, rules, map, map-append, answers_always, fault_view, contradiction_view, contradictions_in, finding_sort_key, topics_of, fault, fault_topic, note_in, unknown, unknown_topic}
 use Rattle.iox2_config_file.specs.Unknown.{unknown_view}
 use Rattle.config_report.proofs.Lines.{map_twice}
-use Rattle.config_report.specs.Contradictions.{contradiction_view, contradictions_in}
-use Rattle.config_report.specs.Findings.{finding_sort_key, topics_of}
-use Rattle.config_report.specs.Notes.{fault, fault_topic, note_in, unknown, unknown_topic}
 use Rattle.config_report.proofs.check.list_of.Goals as goal
 
 pub returns : goal.returns

@@ -1,5 +1,4 @@
-use Rattle.std.proofs.Common.{◌∙◌, ap}
-use Rattle.config_report.specs.Findings.{lines_of}
+use Rattle.config_report.proofs.Prelude.{◌∙◌, ap, lines_of}
 use Rattle.config_report.proofs.check.read_file.Goals as goal
 
 pub returns-in-Some : goal.returns-in-Some

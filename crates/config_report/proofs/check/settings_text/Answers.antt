@@ -1,5 +1,4 @@
-use Rattle.std.proofs.Common.{◌∙◌, ◌++◌, ap, sym, subst}
-use Rattle.config_report.specs.Text.{IsReportOver}
+use Rattle.config_report.proofs.Prelude.{◌∙◌, ◌++◌, ap, sym, subst, IsReportOver}
 use Rattle.config_report.proofs.check.settings_text.Goals as goal
 
 pub returns : goal.returns

@@ -1,6 +1,4 @@
-use Rattle.std.proofs.Common.{◌≡◌, ◌++◌, drop}
-use Rattle.std.specs.Prelude.{flat_map, map}
-use Rattle.config_report.specs.Contradictions.{candidate_view, contradiction_view}
+use Rattle.config_report.proofs.Prelude.{◌≡◌, ◌++◌, drop, flat_map, map, candidate_view, contradiction_view}
 use Rattle.config_report.proofs.contradictions.add_all.Given as goal
 
 abbrev pub invariant-loop-candidate : goal.invariant-loop-candidate

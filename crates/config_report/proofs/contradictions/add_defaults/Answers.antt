@@ -1,8 +1,5 @@
-use Rattle.std.proofs.Common.{append-nil}
-use Rattle.std.proofs.lemmas.Result.{on_ok_weaker}
-use Rattle.std.specs.Prelude.{map}
+use Rattle.config_report.proofs.Prelude.{append-nil, on_ok_weaker, map, candidate_view, contradiction_view}
 use Rattle.config_report.proofs.Lines.{then}
-use Rattle.config_report.specs.Contradictions.{candidate_view, contradiction_view}
 use Rattle.config_report.proofs.contradictions.add_defaults.Goals as goal
 
 pub returns : goal.returns

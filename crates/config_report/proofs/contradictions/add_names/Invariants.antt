@@ -1,6 +1,4 @@
-use Rattle.std.proofs.Common.{◌≡◌, ◌++◌, drop}
-use Rattle.std.specs.Prelude.{flat_map, map}
-use Rattle.config_report.specs.Contradictions.{contradiction_view, long_name, suffix_view}
+use Rattle.config_report.proofs.Prelude.{◌≡◌, ◌++◌, drop, flat_map, map, contradiction_view, long_name, suffix_view}
 use Rattle.config_report.proofs.contradictions.add_names.Given as goal
 
 abbrev pub invariant-loop-kind : goal.invariant-loop-kind

@@ -1,6 +1,4 @@
-use Rattle.std.proofs.Common.{◌≡◌, ◌++◌, drop}
-use Rattle.std.specs.Prelude.{flat_map, map}
-use Rattle.config_report.specs.Contradictions.{contradiction_view, same_suffix, suffix_view}
+use Rattle.config_report.proofs.Prelude.{◌≡◌, ◌++◌, drop, flat_map, map, contradiction_view, same_suffix, suffix_view}
 use Rattle.config_report.proofs.contradictions.add_same.Given as goal
 
 abbrev pub invariant-loop-other : goal.invariant-loop-other

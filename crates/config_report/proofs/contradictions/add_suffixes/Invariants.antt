@@ -1,6 +1,4 @@
-use Rattle.std.proofs.Common.{◌≡◌, ◌++◌, drop}
-use Rattle.std.specs.Prelude.{map}
-use Rattle.config_report.specs.Contradictions.{contradiction_view, suffix_contradictions, suffix_view}
+use Rattle.config_report.proofs.Prelude.{◌≡◌, ◌++◌, drop, map, contradiction_view, suffix_contradictions, suffix_view}
 use Rattle.config_report.proofs.contradictions.add_suffixes.Given as goal
 
 abbrev pub invariant-loop-i : goal.invariant-loop-i

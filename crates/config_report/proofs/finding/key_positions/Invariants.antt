@@ -1,7 +1,4 @@
-use Rattle.std.proofs.Common.{◌≡◌, ◌++◌, drop}
-use Rattle.std.specs.Prelude.{map}
-use Rattle.config_report.specs.Notes.{topic_path}
-use Rattle.toml_positions.specs.Written.{path_view}
+use Rattle.config_report.proofs.Prelude.{◌≡◌, ◌++◌, drop, map, topic_path, path_view}
 use Rattle.config_report.proofs.finding.key_positions.Given as goal
 
 abbrev pub invariant-loop-subject : goal.invariant-loop-subject

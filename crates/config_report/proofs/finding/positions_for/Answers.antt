@@ -1,13 +1,8 @@
-use Rattle.std.proofs.Common.{◌≡◌, ◌∙◌, false, None, length, refl, arith}
-use Rattle.std.specs.Prelude.{map, nat_le}
-use Rattle.std.proofs.lemmas.Bool.Decides.{nat_tests}
 use Rattle.std.proofs.lemmas.Grind.{common_steps}
-use Rattle.std.proofs.lemmas.List.{length-map}
 use Rattle.std.proofs.lemmas.Simd.{splat_is_map}
 use Rattle.std.proofs.Math.ListN.{replicate}
+use Rattle.config_report.proofs.Prelude.{◌≡◌, ◌∙◌, false, None, length, refl, arith, map, nat_le, nat_tests, length-map, position_for, path_view}
 use Rattle.config_report.proofs.Lines.{map_same}
-use Rattle.config_report.specs.Notes.{position_for}
-use Rattle.toml_positions.specs.Written.{path_view}
 use Rattle.config_report.proofs.finding.positions_for.Goals as goal
 
 pub returns : goal.returns

@@ -1,4 +1,4 @@
-use Rattle.std.proofs.lemmas.Str.{IsUtf8-past_char}
+use Rattle.config_report.proofs.Prelude.{IsUtf8-past_char}
 use Rattle.config_report.proofs.Characters.{printed_next}
 use Rattle.config_report.proofs.printable.write_printable.Goals as goal
 

@@ -1,7 +1,5 @@
-use Rattle.std.proofs.Common.{◌≡◌, ◌++◌, IsUtf8, chars, string_bytes}
-use Rattle.std.specs.Prelude.{flat_map}
 use Rattle.std.specs.Str.Iter.{chars_rest}
-use Rattle.config_report.specs.Printable.{printable_char}
+use Rattle.config_report.proofs.Prelude.{◌≡◌, ◌++◌, IsUtf8, chars, string_bytes, flat_map, printable_char}
 use Rattle.config_report.proofs.printable.write_printable.Given as goal
 
 abbrev pub invariant-loop-c : goal.invariant-loop-c

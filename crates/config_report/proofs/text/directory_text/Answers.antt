@@ -1,10 +1,8 @@
-use Rattle.std.proofs.Common.{◌≡◌, ℕ, List, codes, length, nat_lt, true, refl, sym}
 use Rattle.std.proofs.lemmas.Bool.{lt-ltb}
-use Rattle.std.specs.Prelude.{Err}
+use Rattle.config_report.proofs.Prelude.{◌≡◌, ℕ, List, codes, length, nat_lt, true, refl, sym, Err, directory_text}
 use Rattle.iox2_texts.specs.Path.{MakesJoined, join}
 use Rattle.iox2_texts.specs.declared.bounded.SemanticStringError.{SemanticStringError}
 use Rattle.iox2_texts.specs.declared.bounded.SemanticStringError.TheVariants.{InvalidContent, ExceedsMaximumLength}
-use Rattle.config_report.specs.Text.{directory_text}
 use Rattle.config_report.proofs.text.directory_text.Goals as goal
 
 too_long : (root entry : List ℕ) (why : SemanticStringError) → MakesJoined root entry (Err why)

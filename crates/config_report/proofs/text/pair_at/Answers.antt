@@ -1,4 +1,4 @@
-use Rattle.std.proofs.lemmas.Option.{slice_get-get_or}
+use Rattle.config_report.proofs.Prelude.{slice_get-get_or}
 use Rattle.config_report.proofs.Pairs.{pair_here}
 use Rattle.config_report.proofs.text.pair_at.Goals as goal
 

@@ -1,5 +1,4 @@
-use Rattle.std.proofs.Common.{string_bytes}
-use Rattle.std.proofs.lemmas.Result.{on_ok_weaker}
+use Rattle.config_report.proofs.Prelude.{string_bytes, on_ok_weaker}
 use Rattle.config_report.proofs.Lines.{then}
 use Rattle.config_report.proofs.text.write_directories.Goals as goal
 

@@ -1,6 +1,4 @@
-use Rattle.std.proofs.Common.{◌≡◌, ◌++◌, OnOk, string_bytes, subst}
-use Rattle.std.proofs.lemmas.Result.{on_ok_weaker}
-use Rattle.config_report.specs.Text.{files_text}
+use Rattle.config_report.proofs.Prelude.{◌≡◌, ◌++◌, OnOk, string_bytes, subst, on_ok_weaker, files_text}
 use Rattle.config_report.proofs.Lines.{then}
 use Rattle.config_report.proofs.text.write_files.Goals as goal
 

@@ -1,6 +1,4 @@
-use Rattle.std.proofs.Common.{◌≡◌, ◌++◌, drop, string_bytes}
-use Rattle.std.specs.Prelude.{map, flat_map}
-use Rattle.config_report.specs.Text.{file_line, kind_view}
+use Rattle.config_report.proofs.Prelude.{◌≡◌, ◌++◌, drop, string_bytes, map, flat_map, file_line, kind_view}
 use Rattle.config_report.proofs.text.write_kinds.Given as goal
 
 abbrev pub invariant-loop-kind : goal.invariant-loop-kind

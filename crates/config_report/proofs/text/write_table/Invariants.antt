@@ -1,6 +1,4 @@
-use Rattle.std.proofs.Common.{◌≡◌, ◌++◌, drop, string_bytes}
-use Rattle.std.specs.Prelude.{flat_map}
-use Rattle.config_report.specs.Text.{setting_line, table_lines, value_pairs}
+use Rattle.config_report.proofs.Prelude.{◌≡◌, ◌++◌, drop, string_bytes, flat_map, setting_line, table_lines, value_pairs}
 use Rattle.config_report.proofs.text.write_table.Given as goal
 
 abbrev pub invariant-loop-index : goal.invariant-loop-index

@@ -1,6 +1,4 @@
-use Rattle.std.proofs.Common.{◌≡◌, ◌++◌, drop, string_bytes}
-use Rattle.std.specs.Prelude.{flat_map}
-use Rattle.config_report.specs.Text.{table_lines}
+use Rattle.config_report.proofs.Prelude.{◌≡◌, ◌++◌, drop, string_bytes, flat_map, table_lines}
 use Rattle.config_report.proofs.text.write_tables.Given as goal
 
 abbrev pub invariant-loop-section : goal.invariant-loop-section
