@@ -193,15 +193,25 @@ fn no_toml(alloc: Global, text: &str, error: &toml::de::Error) -> Result<Finding
 {
     let bytes = text.as_bytes();
     let start = start_of(error, bytes);
-    let words = syntax_words(alloc, error, text.get(start..).unwrap_or(""))?;
+    let before = text.get(..start).unwrap_or("");
+    let words = syntax_words(alloc, error, before, text.get(start..).unwrap_or(""))?;
     error_behind(alloc, &bytes[..start], words.as_str())
 }
 
-/// Why a text is no TOML: the words of `toml`, with the key that is written twice, or with more of
-/// what a value may be. The text is that from the error on.
-fn syntax_words(alloc: Global, error: &toml::de::Error, text: &str) -> Result<String, AllocError> {
+/// Why a text is no TOML: the words of `toml`, with the key that is written twice or whose number
+/// is out of range, or with more of what a value may be. The texts are those before the error and
+/// from it on.
+fn syntax_words(
+    alloc: Global,
+    error: &toml::de::Error,
+    before: &str,
+    text: &str,
+) -> Result<String, AllocError> {
     match error.message() {
         "duplicate key" => format!(in alloc; "duplicate key `{}`", first_key(text)),
+        "number out of range" => {
+            format!(in alloc; "number out of range for the key `{}`", key_before(before))
+        }
         words if tells_no_value(words, text) => String::from_str(
             alloc,
             "invalid value, expected a string in quotes, a number, `true`, `false`, a date-time, \
@@ -232,6 +242,16 @@ fn first_key(text: &str) -> &str {
     let (key, _) = text
         .split_once(|c| c == '=' || c == ']')
         .unwrap_or((text, ""));
+    key.trim_ascii()
+}
+
+/// The key of the value in which a text ends: what stands before the last `=`, on its line or in
+/// its inline table.
+fn key_before(text: &str) -> &str {
+    let (before, _) = text.rsplit_once('=').unwrap_or(("", ""));
+    let (_, key) = before
+        .rsplit_once(|c| c == '\n' || c == '{' || c == ',')
+        .unwrap_or(("", before));
     key.trim_ascii()
 }
 

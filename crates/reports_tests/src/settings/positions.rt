@@ -7,7 +7,7 @@ use std::process::Abort;
 use std::test::Fail;
 
 /// A file, and what is reported of it.
-const REPORTED: [(&[u8], &str); 18] = [
+const REPORTED: [(&[u8], &str); 20] = [
     (
         b"# two faults\n[global]\nprefix = 1\n[defaults.event]\n\t\"max-nodes\" = -1\n",
         "3:1: error: global.prefix: is an integer, and a string with the name of a file is wanted\n\
@@ -70,6 +70,14 @@ const REPORTED: [(&[u8], &str); 18] = [
          date-time, an array or an inline table\n",
     ),
     (b"a = 1_\n", "1:5: error: `_` may only go between digits\n"),
+    (
+        b"[defaults.event]\nmax-nodes = 9223372036854775808\n",
+        "2:13: error: number out of range for the key `max-nodes`\n",
+    ),
+    (
+        b"[global]\ncreation-timeout = { nanos = 0, secs = -9223372036854775809 }\n",
+        "2:40: error: number out of range for the key `secs`\n",
+    ),
     (b"a = 1\na = 2\n", "2:1: error: duplicate key `a`\n"),
     (
         b"[ global ]\n\n[ global ]\n",
