@@ -1,5 +1,6 @@
 -- What is said of two configurations, and how the program ends.
 use Rattle.std.proofs.Common.{◌≡◌, inl, inr, ℕ, true, Bool, List, [], ◌∷◌, ◌≤◌, length, map, get_or, codes, Option, Some, None, IfOk, Result, Ok, Err, refl, arith, string_bytes}
+use Rattle.std.specs.Bool.{MatchBool}
 use Rattle.std.specs.Prelude.{String, OnOk}
 use Rattle.std.specs.Io.KnownBytes.{Appends, IsAtEnd}
 use Rattle.std.proofs.lemmas.List.Elements.{All-append, All-cons, All-head, All-nil, All-tail}
@@ -88,7 +89,7 @@ pub ends_where_written : (Gives : List ℕ → Result (List ℕ) FileError → T
     (parsed : Result Request RequestError) (end : Result Answer AllocError) (wrote : Result ℕ Error)
     (given left out_old out_new err_old err_new : Option (List ℕ)) → Requests arguments parsed
     → IfOk end (AnswersArguments Gives coloured parsed given)
-    → OnOk end (input_is_read parsed ≡ true → IsAtEnd left)
+    → OnOk end (MatchBool (input_is_read parsed) (IsAtEnd left) (left ≡ given))
     → IfOk wrote (λ status. status ≡ either (λ answer. status_number answer.status) (λ why. 3) end)
     → OnOk wrote (Appends out_old out_new
     (either (λ answer. string_bytes answer.output) (λ why. []) end))

@@ -1,5 +1,6 @@
 -- What is answered to a request, and what the streams of the program get.
 use Rattle.std.specs.Prelude.{◌≡◌, ℕ, Bool, true, false, ◌&&◌, ◌||◌, nat_lt, List, [], ◌∷◌, ◌++◌, flat_map, length, if◌then◌else◌, slice_get, codes, ◌⊎◌, Option, Some, None, IfSome, Result, Ok, Err, String, string_bytes}
+use Rattle.std.specs.Bool.{MatchBool}
 use Rattle.std.specs.Io.KnownBytes.{Appends, IsAtEnd}
 use Rattle.std.specs.List.{All, list_any}
 use Rattle.std.specs.Str.{bytes_eq}
@@ -164,7 +165,7 @@ AnswersArguments Gives coloured parsed given answer =
     (bytes : List ℕ) × IsInput parsed given bytes × Answers Gives coloured bytes parsed answer
 
 -- the arguments are a request or bad, that is answered, the writers got the answer, the status is
--- its own, and the standard input was read to its end if it is one of the files
+-- its own, and the standard input was read to its end if it is one of the files, and else not read
 pub record Reported (Gives : List ℕ → Result (List ℕ) FileError → Type 0) (coloured : Bool)
     (arguments : Result (IntoIter (String Global) Global) Error) (status : ℕ)
     (given left out_old out_new err_old err_new : Option (List ℕ)) : Type 0 where
@@ -173,7 +174,7 @@ pub record Reported (Gives : List ℕ → Result (List ℕ) FileError → Type 0
   pub requests : Requests arguments parsed
   pub answered : AnswersArguments Gives coloured parsed given answer
   pub reported : status ≡ status_number answer.status
-  pub read : input_is_read parsed ≡ true → IsAtEnd left
+  pub read : MatchBool (input_is_read parsed) (IsAtEnd left) (left ≡ given)
   pub output : Appends out_old out_new (string_bytes answer.output)
   pub errors : Appends err_old err_new (string_bytes answer.errors)
 

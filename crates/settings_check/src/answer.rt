@@ -1,6 +1,7 @@
 //! The program: files come by their names, and what is answered to a request goes to writers.
 ghost use Rattle.std.specs.Prelude.{◌≡◌, ◌<◌, ◌⊎◌, true, IfErr, IfOk, OnOk, option_copied};
 ghost use Rattle.std.specs.Prelude.{option_map, string_bytes};
+ghost use Rattle.std.specs.Bool.{MatchBool};
 ghost use Rattle.std.specs.Io.KnownBytes.{IsAtEnd};
 ghost use Rattle.line_streams.specs.Filters.{status_number};
 ghost use Rattle.line_streams.specs.Streams.{Fails, IsFlushed, ReadFails};
@@ -289,8 +290,8 @@ fn answered<R: Source, F: Files>(
 ) -> io::Result<Result<Answer, AllocError>>
     ensures answered { IfOk result (λ end. IfOk end (AnswersArguments (F.Gives files.now)
         coloured parsed.now (R.remaining input.old))) }
-    ensures read { IfOk result (λ end. OnOk end
-        (input_is_read parsed.now ≡ true → IsAtEnd (R.remaining input.new))) }
+    ensures read { IfOk result (λ end. OnOk end (MatchBool (input_is_read parsed.now)
+        (IsAtEnd (R.remaining input.new)) (R.remaining input.new ≡ R.remaining input.old))) }
     ensures failed { IfErr result (ReadFails R.FailsBy input.new) }
 {
     if !reads(parsed) {

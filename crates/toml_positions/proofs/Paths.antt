@@ -1,12 +1,16 @@
 -- Paths of keys.
-use Rattle.std.proofs.Common.{◌≡◌, ◌≤◌, ◌<◌, ◌+◌, ◌⊎◌, inl, inr, ℕ, zero, suc, true, ◌&&◌, bytes_eq, get_or, List, [], ◌∷◌, ◌++◌, length, map, drop, refl, sym, ap, ◌∙◌, string_bytes, String, arith, add-one, append_assoc, length-append, drop_of_length-le}
+use Rattle.std.proofs.Common.{◌≡◌, ◌≤◌, ◌<◌, ◌+◌, ◌⊎◌, inl, inr, ℕ, zero, suc, true, false, ◌&&◌, bytes_eq, get_or, List, [], ◌∷◌, ◌++◌, length, map, None, Option, Some, drop, refl, sym, ap, ◌∙◌, string_bytes, String, arith, add-one, append_assoc, length-append, drop_of_length-le}
 use Rattle.std.specs.Borrow.{Bor}
 use Rattle.std.specs.declared.alloc.Global.{Global}
-use Rattle.std.specs.Prelude.{nat_le, nat_lt}
+use Rattle.std.specs.Prelude.{is_some, nat_le, nat_lt}
 use Rattle.std.proofs.lemmas.Bool.Decides.{nat_tests}
 use Rattle.std.proofs.lemmas.List.{map-append, length-map}
+use Rattle.std.proofs.lemmas.Option.{none-some}
+use Rattle.std.proofs.Math.Seq.{drop-cons}
+use Rattle.toml.proofs.Lines.{data_of_table}
+use Rattle.toml.specs.Data.{Data, Members, array, as_table, boolean, datetime, float, get, get_member, integer, string, table}
 use Rattle.toml_parser.specs.Reading.{path_view as keys_view}
-use Rattle.toml_positions.specs.Written.{agree, path_view}
+use Rattle.toml_positions.specs.Written.{agree, path_view, value_at}
 use Rattle.toml_positions.specs.declared.position.KeyPath.{KeyPath}
 
 -- the keys of a path: those of its table, and then its own
@@ -63,3 +67,60 @@ led old front last =
     map-append string_bytes (old ++ front) (last ∷ [])
     ∙ ap (λ l. l ++ string_bytes last ∷ []) (map-append string_bytes old front)
     ∙ append_assoc (keys_view old) (keys_view front) (string_bytes last ∷ [])
+
+-- there is nothing in nothing
+pub nothing_at : (path : List (List ℕ)) → value_at path None ≡ None
+nothing_at [] = refl
+nothing_at (k ∷ ks) = nothing_at ks
+
+gone : {found : Option Data} (path : List (List ℕ)) → found ≡ None → value_at path found ≡ None
+gone path e = rw e (nothing_at path)
+
+led_into : {found other : Option Data} (path : List (List ℕ)) → found ≡ other
+    → value_at path other ≡ None → value_at path found ≡ None
+led_into path e none = rw e none
+
+-- a path that begins with a key leads into the table at that key, if there is one
+pub in_table : (key : List ℕ) (keys : List (List ℕ)) (ms inner : Members) (d : Data)
+    → Some d ≡ get_member key ms → Some inner ≡ as_table d
+    → value_at (key ∷ keys) (Some (table ms)) ≡ value_at keys (Some (table inner))
+in_table key keys ms inner d is held =
+    rw (← is) (ap (λ v. value_at keys (Some v)) (data_of_table d inner (sym held)))
+
+no_member : (key : List ℕ) (d : Data) → None ≡ as_table d → get key d ≡ None
+no_member key (string s) is = refl
+no_member key (integer z) is = refl
+no_member key (float x) is = refl
+no_member key (boolean b) is = refl
+no_member key (datetime dt) is = refl
+no_member key (array ds) is = refl
+no_member key (table ms) is = absurd (none-some ms is)
+
+-- else what is left of the path of a key leads to nothing, and so does the whole path
+pub in_nothing : (tables : List (Bor (List ℕ))) (key : List ℕ) (i : ℕ) (x : Bor (List ℕ))
+    (ms : Members) (whole : Option Data)
+    → value_at (map (λ k. k.now) (drop i tables) ++ key ∷ []) (Some (table ms)) ≡ whole
+    → i < length tables → None ≡ get_member (get_or tables i x).now ms
+    → false ≡ is_some whole
+in_nothing tables key i x ms whole left lt none =
+    let found : None ≡ value_at (map (λ k. k.now) (drop i tables) ++ key ∷ []) (Some (table ms)) =
+    rw (drop-cons tables i x lt)
+    (sym (gone (map (λ k. k.now) (drop (suc i) tables) ++ key ∷ []) (sym none))) in
+    ap is_some (found ∙ left)
+
+no_table : (keys : List (Bor (List ℕ))) (key : List ℕ) (d : Data) → None ≡ as_table d
+    → value_at (map (λ k. k.now) keys ++ key ∷ []) (Some d) ≡ None
+no_table [] key d none = no_member key d none
+no_table (k ∷ ks) key d none = gone (map (λ k. k.now) ks ++ key ∷ []) (no_member k.now d none)
+
+pub in_no_table : (tables : List (Bor (List ℕ))) (key : List ℕ) (i : ℕ) (x : Bor (List ℕ))
+    (ms : Members) (d : Data) (whole : Option Data)
+    → value_at (map (λ k. k.now) (drop i tables) ++ key ∷ []) (Some (table ms)) ≡ whole
+    → i < length tables → Some d ≡ get_member (get_or tables i x).now ms → None ≡ as_table d
+    → false ≡ is_some whole
+in_no_table tables key i x ms d whole left lt some none =
+    let found : None ≡ value_at (map (λ k. k.now) (drop i tables) ++ key ∷ []) (Some (table ms)) =
+    rw (drop-cons tables i x lt)
+    (sym (led_into (map (λ k. k.now) (drop (suc i) tables) ++ key ∷ []) (sym some)
+    (no_table (drop (suc i) tables) key d none))) in
+    ap is_some (found ∙ left)

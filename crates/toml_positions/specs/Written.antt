@@ -1,9 +1,10 @@
 -- What the expressions of a text write.
-use Rattle.std.specs.Prelude.{◌≡◌, ℕ, ◌-◌, zero, suc, Bool, true, false, ◌&&◌, ◌||◌, ◌==◌, nat_le, if◌then◌else◌, List, [], ◌∷◌, ◌++◌, length, take, drop, slice_index, map, bytes_eq, Option, Some, None}
+use Rattle.std.specs.Prelude.{◌≡◌, ℕ, ◌-◌, zero, suc, Bool, true, false, ◌&&◌, ◌||◌, ◌==◌, nat_le, if◌then◌else◌, List, [], ◌∷◌, ◌++◌, length, take, drop, slice_index, map, bytes_eq, is_some, Option, Some, None, option_and_then, option_map}
 use Rattle.toml_parser.specs.Lexical.{Read, left_bracket, first, skip_ws, skip_blank}
 use Rattle.toml_parser.specs.Strings.{Key}
+use Rattle.toml.specs.Data.{Data, get, table}
 use Rattle.toml.specs.Tables.{Definition, Expression, key_value}
-use Rattle.toml.specs.Parse.{line, skip_bom}
+use Rattle.toml.specs.Parse.{line, parse_document, skip_bom}
 use Rattle.toml_positions.specs.Position.{position_after}
 use Rattle.toml_positions.specs.declared.position.Position.{Position}
 use Rattle.toml_positions.specs.declared.position.KeyPath.{KeyPath}
@@ -77,7 +78,7 @@ agree (k ∷ ks) (l ∷ ls) = bytes_eq k l && agree ks ls
 agree _ _ = true
 
 -- An expression writes the paths through which its own leads. A pair also writes those that lead
--- through its own, since all of them are in its value.
+-- through its own and are in its value.
 abbrev pub writes : List (List ℕ) → Bool → List (List ℕ) → Bool
 writes keys pair path = agree keys path && (pair || nat_le (length path) (length keys))
 
@@ -88,9 +89,19 @@ first_position text path (w ∷ ws) =
     if writes w.path w.pair path then Some (position_after (take w.before text))
     else first_position text path ws
 
--- the position where a path is first written in a text
+-- what is at a path of keys
+abbrev pub value_at : List (List ℕ) → Option Data → Option Data
+value_at [] found = found
+value_at (key ∷ keys) found = value_at keys (option_and_then (get key) found)
+
+-- the text is TOML that has something at the path
+abbrev pub has_path : List ℕ → List (List ℕ) → Bool
+has_path text path = is_some (value_at path (option_map table (parse_document text)))
+
+-- the position where a path that a text has is first written
 abbrev pub position_in : List ℕ → List (List ℕ) → Option Position
-position_in text path = first_position text path (written_in text)
+position_in text path =
+    if has_path text path then first_position text path (written_in text) else None
 
 -- the positions where some paths are first written
 abbrev pub ArePlaces : List ℕ → List (List (List ℕ)) → List (Option Position) → Type 0

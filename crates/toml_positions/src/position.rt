@@ -1,21 +1,24 @@
 //! Lines and columns, and those where paths of keys are written: the expressions of a text are gone
 //! over, headers, and pairs of a key and a value, of which only the end is looked for.
 ghost use Rattle.std.specs.Prelude.{◌≡◌, ℕ, ◌<◌, ◌≤◌, ◌++◌, [], length, map, take, slice_index_or};
-ghost use Rattle.std.specs.Prelude.{IfOk, IfSome, IsSome, OnOk, Some, option_map};
+ghost use Rattle.std.specs.Prelude.{IfOk, IfSome, IsSome, OnOk, Some, is_some, option_map};
 ghost use Rattle.std.specs.Prelude.{if◌then◌else◌};
 ghost use Rattle.toml_parser.specs.Lexical.{first, left_bracket};
 ghost use Rattle.toml_parser.specs.Reading.{key_view, path_view as keys_view};
 ghost use Rattle.toml_parser.specs.Strings.{key};
+ghost use Rattle.toml.specs.Data.{get_member, table};
 ghost use Rattle.toml.specs.Parse as spec;
+ghost use Rattle.toml.specs.View.{table_view, view};
 ghost use Rattle.toml_positions.specs.Position.{column_after, position_after};
 ghost use Rattle.toml_positions.specs.Reading.{Shortens, closing_of, element_value, head_view};
 ghost use Rattle.toml_positions.specs.Reading.{past_atom, past_element, past_elements, past_value};
 ghost use Rattle.toml_positions.specs.Reading.{seen_in, seen_view};
 ghost use Rattle.toml_positions.specs.Written.{agree, writes, parts, path_below, path_view};
 ghost use Rattle.toml_positions.specs.Written.{first_position, past_brackets, written_in, ArePlaces};
-ghost use Rattle.toml_positions.specs.Written.{written_view};
+ghost use Rattle.toml_positions.specs.Written.{position_in, value_at, written_view};
 
 use std::alloc::{AllocError, Global};
+use toml::{Table, Value};
 use toml_parser::text::{byte_at, first, skip, skip_blank, skip_ws};
 use toml_parser::{
     Key, ParseError, RECURSION_LIMIT, bytes, dotted_key, quoted, starts_string, unquoted,
@@ -245,25 +248,104 @@ fn first_position(text: &str, all: &[Written], path: &KeyPath<'_>) -> Option<Pos
     None
 }
 
+/// What a table has at a key.
+#[tactic(auto, using(toml::proofs::Views::table_get))]
+fn get<'a>(table: &'a Table, key: &str) -> Option<&'a Value>
+    ensures { option_map (λ v. view v.now) result ≡ get_member key.now (table_view table.now) }
+{
+    table.get(key)
+}
+
+/// Whether a file has something at a path.
+#[tactic(auto, using(crate::proofs::Paths::in_table))]
+fn has(file: &Table, path: &KeyPath<'_>) -> bool
+    ensures { result ≡ is_some (value_at (path_view path.now)
+        (Some (table (table_view file.now)))) }
+{
+    let mut table = file;
+    for key in path.table {
+        let Some(value) = get(table, key) else {
+            return false;
+        };
+        let Some(inner) = value.as_table() else {
+            return false;
+        };
+        table = inner;
+    }
+    get(table, path.key).is_some()
+}
+
+/// The table that a text is, if it is TOML.
+fn parse(alloc: Global, text: &str) -> Result<Option<Table>, AllocError>
+    ensures { IfOk result (λ file. option_map table_view file ≡ spec.parse_document text.now) }
+{
+    match toml::table_from_str(alloc, text) {
+        Ok(file) => Ok(Some(file)),
+        Err(e) if e.is_memory() => Err(AllocError),
+        Err(_) => Ok(None),
+    }
+}
+
+/// The position where a path that a file has is first written, by the expressions of its text.
+#[tactic(auto, using(crate::proofs::Paths::nothing_at))]
+fn position_of(
+    text: &str,
+    file: &Option<Table>,
+    all: &[Written],
+    path: &KeyPath<'_>,
+) -> Option<Position>
+    requires file { option_map table_view file.now ≡ spec.parse_document text.now }
+    requires all { IsSome (spec.parse_document text.now)
+        → map written_view all.now ≡ written_in text.now }
+    ensures { result ≡ position_in text.now (path_view path.now) }
+{
+    match file {
+        Some(table) => {
+            if has(table, path) {
+                first_position(text, all, path)
+            } else {
+                None
+            }
+        }
+        None => None,
+    }
+}
+
+/// The positions where some paths that a file has are first written.
+fn positions_among(
+    alloc: Global,
+    text: &str,
+    file: &Option<Table>,
+    all: &[Written],
+    paths: &[KeyPath<'_>],
+) -> Result<Vec<Option<Position>>, AllocError>
+    requires file { option_map table_view file.now ≡ spec.parse_document text.now }
+    requires all { IsSome (spec.parse_document text.now)
+        → map written_view all.now ≡ written_in text.now }
+    ensures { IfOk result (λ found. ArePlaces text.now (map path_view paths.now) found.items) }
+{
+    let mut found = Vec::new(alloc);
+    for path in paths {
+        found.push(position_of(text, file, all, path))?;
+    }
+    Ok(found)
+}
+
 /// The position where each of some paths of keys is first written in a text that is TOML: the key
 /// of the first expression whose path leads through it, or of the first pair whose path it leads
-/// through. A path that no expression writes has none.
+/// through. A path at which the text has nothing has none, and no path of a text that is no TOML.
 ///
-/// The text is gone over once. Nothing is said of a text that is no TOML.
+/// The text is gone over twice, and up to the key of each path that is found.
 pub fn positions_of(
     alloc: Global,
     text: &str,
     paths: &[KeyPath<'_>],
 ) -> Result<Vec<Option<Position>>, AllocError>
-    ensures { IfOk result (λ found. IsSome (spec.parse_document text.now)
-        → ArePlaces text.now (map path_view paths.now) found.items) }
+    ensures { IfOk result (λ found. ArePlaces text.now (map path_view paths.now) found.items) }
 {
+    let file = parse(alloc, text)?;
     let all = written_in(alloc, text)?;
-    let mut found = Vec::new(alloc);
-    for path in paths {
-        found.push(first_position(text, all.as_slice(), path))?;
-    }
-    Ok(found)
+    positions_among(alloc, text, &file, all.as_slice(), paths)
 }
 
 /// An expression without its value.

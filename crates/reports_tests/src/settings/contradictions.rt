@@ -5,7 +5,7 @@ use std::alloc::{AllocError, Global};
 use std::test::Fail;
 
 /// Files, and what is said of each, without its name.
-const CONTRADICTIONS: [(&[u8], &str); 10] = [
+const CONTRADICTIONS: [(&[u8], &str); 11] = [
     (
         b"defaults.event.notifier-created-event = 256\n",
         ":1:1: warning: defaults.event.notifier-created-event: is 256, and \
@@ -34,6 +34,12 @@ const CONTRADICTIONS: [(&[u8], &str); 10] = [
     (
         b"global.service.connection-suffix = '.data'\n",
         ":1:1: warning: global.service.connection-suffix: is \".data\", and \
+         global.service.data-segment-suffix is \".data\": files of both kinds cannot be \
+         distinguished by their names",
+    ),
+    (
+        b"\nglobal = { service = { connection-suffix = '.data' } }\n",
+        ":2:1: warning: global.service.connection-suffix: is \".data\", and \
          global.service.data-segment-suffix is \".data\": files of both kinds cannot be \
          distinguished by their names",
     ),

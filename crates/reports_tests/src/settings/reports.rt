@@ -25,6 +25,7 @@ const FILES: Known<'_> = Known(&[
         "one",
         b"global.prefix = 'one_'\ndefaults.event.max-nodes = 5\n",
     ),
+    ("inline", b"global = { prefix = '\"' }\n"),
     (
         "other",
         b"[global.node]\nmonitor-suffix = '.seen'\n[global]\nprefix = \"\\u0022\"\n",
@@ -34,7 +35,7 @@ const FILES: Known<'_> = Known(&[
 /// Words, the status, the output and the errors.
 type Run<'a> = (&'a [&'a str], u8, &'a str, &'a str);
 
-const RUNS: [Run<'_>; 12] = [
+const RUNS: [Run<'_>; 13] = [
     (
         &["bad.toml"],
         1,
@@ -102,6 +103,14 @@ const RUNS: [Run<'_>; 12] = [
          default in one, and must be the same in all processes of one system\n\
          one:2:1: warning: defaults.event.max-nodes: is 5 here and 36 by default in other\n\
          2 errors, 1 warning\n",
+        "",
+    ),
+    (
+        &["--compare", "inline", "other"],
+        1,
+        "other:2:1: error: global.node.monitor-suffix: is \".seen\" here and \".node_monitor\" by \
+         default in inline, and must be the same in all processes of one system\n\
+         1 error, 0 warnings\n",
         "",
     ),
     (
