@@ -1,9 +1,10 @@
 -- The lines above one.
-use Rattle.history_logs.proofs.Words.{All, All-head, All-tail, Expected, GoesOn, HasNo, HasNoNext, IsAbove, IsOrderly, IsReadTo, IsTrue, List, Log, None, Option, Service, Some, Takes, [], ap, append_assoc, arith, before_one, calls_in, inl, inr, is_note, length, length-append, line_text, refl, subst, sum_by, sym, ℕ, ◌++◌, ◌+◌, ◌<◌, ◌∙◌, ◌∷◌, ◌≡◌, ◌≢◌, ◌≤◌}
+use Rattle.history_logs.proofs.Words.{All, All-head, All-tail, Expected, GoesOn, HasNo, HasNoNext, IsAbove, IsOrderly, IsReadTo, IsTrue, List, Log, None, Option, Service, Some, Takes, [], ap, arith, before_one, calls_in, inl, inr, is_note, length, length-append, line_text, refl, subst, sum_by, sym, ℕ, ◌++◌, ◌+◌, ◌<◌, ◌∙◌, ◌∷◌, ◌≡◌, ◌≢◌, ◌≤◌}
 use Rattle.history_logs.specs.declared.logs.verdict.Expected.TheVariants as expected
 use Rattle.history_logs.specs.Good.{EndsSo}
 use Rattle.history_logs.specs.Logs.{EndsThere, IsMissing}
 use Rattle.history_logs.specs.Reading.HasRead.{nothing, note, line}
+use Rattle.history_logs.proofs.FirstLines.{behind}
 use Rattle.history_logs.proofs.Kept.{few_step, kept_new, kept_step}
 
 pub above_new : (bytes : List ℕ) (log : Log) → log.services ≡ []
@@ -25,9 +26,7 @@ above_new bytes log services callers waits =
 one_line : (bytes text rest own after : List ℕ) → bytes ≡ text ++ rest → rest ≡ own ++ 10 ∷ after
     → bytes ≡ (text ++ (own ++ 10 ∷ [])) ++ after
 one_line bytes text rest own after is comes =
-    is ∙ (ap (λ (l : List ℕ). text ++ l) comes
-    ∙ (ap (λ (l : List ℕ). text ++ l) (sym (append_assoc own (10 ∷ []) after))
-    ∙ sym (append_assoc text (own ++ 10 ∷ []) after)))
+    is ∙ (ap (λ (l : List ℕ). text ++ l) comes ∙ sym (behind text own [] after))
 
 longer : (text own : List ℕ) (count : ℕ) → count ≤ length text
     → count + 1 ≤ length (text ++ (own ++ 10 ∷ []))

@@ -1,15 +1,16 @@
 -- Where replies and commands stand in what was read.
-use Rattle.history_logs.proofs.Words.{All, All-nil, All-push, All-set, All-weaker, AllPairs, Answers, Begin, Begins, Begun, CallerState, Crash, Crashes, End, Event, Expected, GoesOn, HasCommand, HasEventLines, HasNo, IsKept, IsLine, IsLineAt, IsOpen, IsOrderly, IsReadTo, IsSaidIn, Judged, Line, List, Log, None, Option, Part, Says, SeenReply, Service, ServiceLine, Some, StandsAt, [], all_pairs_push, ap, append-nil, append_assoc, arith, begin, call, called, calls_shown, cases_eq, command, crash, end, get_or, given, inl, inr, judged_answered, length, line_text, refl, reply, same_Some, service, shown, slice_get, slice_set, start_of, started, starting, starts, stopping, stops, subst, suc, sym, unseen, weak, with_alone, with_begin, with_crash, with_end, with_look, with_over, with_part, zero, ℕ, ◌++◌, ◌+◌, ◌<◌, ◌∙◌, ◌∷◌, ◌≡◌, ◌≢◌, ◌≤◌}
+use Rattle.history_logs.proofs.Words.{All, All-nil, All-push, All-set, All-weaker, AllPairs, Answers, Begin, Begins, Begun, Crash, End, Event, Expected, GoesOn, HasCommand, HasEventLines, HasNo, IsKept, IsLine, IsLineAt, IsOpen, IsOrderly, IsReadTo, IsSaidIn, Judged, Line, List, Log, None, Option, Part, Says, SeenReply, Service, ServiceLine, Some, StandsAt, [], all_pairs_push, ap, append-nil, append_assoc, arith, begin, call, called, calls_shown, cases_eq, command, crash, end, get_or, given, inl, inr, judged_answered, length, line_text, refl, reply, same_Some, service, shown, slice_get, start_of, started, starting, starts, stopping, stops, subst, suc, sym, unseen, weak, with_begin, with_crash, with_end, with_look, with_over, with_part, zero, ℕ, ◌++◌, ◌+◌, ◌<◌, ◌∙◌, ◌∷◌, ◌≡◌, ◌≢◌, ◌≤◌}
 use Rattle.histories.proofs.Events.{stands_cases, stands_within}
 use Rattle.iox2_dynamic.specs.Service as dynamic
 use Rattle.service_conformance.specs.Judged.Judged.{call as judged_call}
 use Rattle.history_logs.specs.EventLines.{IsAnsweredIn}
 use Rattle.history_logs.specs.Reading.{HasRead}
 use Rattle.history_logs.specs.Reading.HasRead.{nothing as none_read, note as note_read, line as line_read}
-use Rattle.history_logs.specs.declared.logs.callers.CallerState.TheVariants as caller
-use Rattle.history_logs.proofs.LinesAt.{note_or_reply_more, own_command}
+use Rattle.history_logs.proofs.FirstLines.{note_or_reply_more, own_command}
 use Rattle.history_logs.proofs.AtIndex.{all_get, get_last, get_left, get_push, get_within}
-use Rattle.history_logs.proofs.Kept.{kept_new, kept_step, open_at}
+use Rattle.history_logs.proofs.Kept.{Changes, Moves, kept_read, moves_step}
+use Rattle.history_logs.proofs.Kept.Changes.{call_alone, call_begins, call_ends, caller_dies, is_given}
+use Rattle.history_logs.proofs.Kept.Moves.{none_changes, one_added, one_changes}
 use Rattle.history_logs.proofs.Orderly.{both, open_new}
 use Rattle.history_logs.proofs.Shortened.{get_changed, get_unchanged}
 
@@ -222,10 +223,6 @@ module _ (text : List ℕ) (count : ℕ) where
   all_later : (ss : List Service) → All Now ss → All Next ss
   all_later ss all = All-weaker Now Next later ss all
 
-  set_next : (ss new : List Service) (at : ℕ) (t : Service) → All Now ss → Next t
-      → new ≡ slice_set ss at t → All Next new
-  set_next ss new at t all p is = rw is (All-set Next ss at t p (all_later ss all))
-
   located_started : (s : Service) (start : dynamic.Service) → Next s → Next (started s start)
   located_started s start p = record {
     long = p.long;
@@ -234,16 +231,6 @@ module _ (text : List ℕ) (count : ℕ) where
     answers = p.answers;
     begun = p.begun;
   }
-
-  located_crashes : (ss new : List Service) (state : Option CallerState) → All Now ss
-      → Crashes ss (count + 1) state new → All Next new
-  located_crashes ss new (Some caller.Idle) all d = rw d (all_later ss all)
-  located_crashes ss new (Some (caller.Calls at number)) all d =
-      set_next ss new at (with_crash d.0 number (count + 1)) all
-      (located_crash text count d.0 (all_get Now ss at d.0 all d.1) (count + 1) (omega arith)
-      number)
-      d.2
-  located_crashes ss new _ all d = absurd d
 
   located_look : (s : Service) (part : Part) → Now s → HasCommandIn text (count + 1)
       → Next (with_look s part (count + 1))
@@ -267,63 +254,46 @@ module _ (text : List ℕ) (count : ℕ) where
   located_begun s t (weak r) current p has (inr lists) =
       rw lists.1 (located_begin text count s p (count + 1) (omega arith) _ has)
 
-  located_step : (old new : Log) (l : Line) → IsKept old → All Now old.services
-      → GoesOn old (count + 1) l new → IsLine l
+  located_change : (old : Log) (l : Line) (s t : Service) → IsKept old → IsOrderly s → Now s
+      → Changes old (count + 1) s l t → IsLine l
       → ((rest : List ℕ) → IsLineAt (text ++ rest) (count + 1) (line_text l))
-      → (old.waits ≢ None → HasCommandIn text count) → All Next new.services
-  located_step old new (service line) kept all g is there waits =
-      rw g.2
-      (All-push Next old.services (unseen line) (all_later old.services all)
-      (located_new text (count + 1) line))
-  located_step old new (call number c) kept all g is there waits =
-      rw g.4 (all_later old.services all)
-  located_step old new (reply words) kept all g is there waits =
-      let s = g.2 in
+      → (old.waits ≢ None → HasCommandIn text count) → Next t
+  located_change old l s t kept o p (call_begins number name b u current is) line there waits =
+      located_begun s u b current p (λ rest.
+      own_command (text ++ rest) (count + 1) (begin number name b) line tt (there rest)) is
+  located_change old l s t kept o p (call_alone named words r some says) line there waits =
       let k = count + 1 in
-      let orderly = all_get IsOrderly old.services g.0 s kept.orderly g.5 in
-      let c = called s g.1 in
+      let c = called s named in
       let has : HasCommandIn text k =
       λ rest. note_or_reply_more (text ++ rest) count (line_text (reply words)) (inr (words, refl))
-      (there rest) (waits (λ none. let e = sym g.4 ∙ none in absurd (cc)) rest) in
+      (there rest) (waits some rest) in
       let begun : HasEventLinesTo text k (with_begin s c k) =
-      located_begin text count s (all_get Now old.services g.0 s all g.5) k (omega arith) c has in
-      let ended : HasEventLinesTo text k (with_alone s c g.3 k) =
-      located_end text k (with_begin s c k) begun k (omega arith) (length s.calls) g.3 c
-      (reply words) words (open_new s c k orderly) (get_last s.calls c _ refl)
-      g.6 tt refl there in
-      set_next old.services new.services g.0 _ all ended (ap (λ (x : Log). x.services) g.7)
-  located_step old new (begin number name begun) kept all g is there waits =
-      let s = g.1 in
-      let has : HasCommandIn text (count + 1) =
-      λ rest. own_command (text ++ rest) (count + 1) (begin number name begun) is tt (there rest) in
-      set_next old.services new.services g.0 g.5.0 all
-      (located_begun s g.5.0 begun g.5.1 (all_get Now old.services g.0 s all g.3.there) has g.5.2)
-      g.5.3
-  located_step old new (end name words) kept all g is there waits =
-      let s = g.2 in
-      let k = count + 1 in
-      let orderly = all_get IsOrderly old.services g.0 s kept.orderly g.6 in
-      let live = open_at old.services g.0 g.1 s g.6 (kept.opened name g.0 g.1 g.5) in
-      let within : g.1 < length s.calls =
-      omega (arith, orderly.numbered g.1 live.0) in
-      let c = get_within s.calls g.1 within in
-      set_next old.services new.services g.0 (with_end s g.1 g.3 k) all
-      (located_end text count s (all_get Now old.services g.0 s all g.6) k (omega arith) g.1 g.3 c.0
-      (end name words) words live c.1 g.7 is refl there) g.8
-  located_step old new (crash name) kept all g is there waits =
-      located_crashes old.services new.services (old.callers name) all g.1
-  located_step old new (given number what) kept all g is there waits =
-      elim g.5 [
-        | inl first ↦
-            set_next old.services new.services g.0 (started g.1 g.2) all
-            (located_started g.1 g.2 (later g.1 (all_get Now old.services g.0 g.1 all g.4.there)))
-            (ap (λ (x : Log). x.services) first.1)
-        | inr anew ↦
-            let t = started (unseen g.1.line) g.2 in
-            rw anew.1
-            (All-push Next old.services t (all_later old.services all)
-            (located_started (unseen g.1.line) g.2 (located_new text (count + 1) g.1.line)))
-      ]
+      located_begin text count s p k (omega arith) c has in
+      located_end text k (with_begin s c k) begun k (omega arith) (length s.calls) r c
+      (reply words) words (open_new s c k o) (get_last s.calls c _ refl) says tt refl there
+  located_change old l s t kept o p (call_ends number name words r live says) line there waits =
+      let within : number < length s.calls = omega (arith, o.numbered number (live kept).0) in
+      let c = get_within s.calls number within in
+      located_end text count s p (count + 1) (omega arith) number r c.0 (end name words) words
+      (live kept) c.1 says line refl there
+  located_change old l s t kept o p (caller_dies number name live) line there waits =
+      located_crash text count s p (count + 1) (omega arith) number
+  located_change old l s t kept o p (is_given number what start none) line there waits =
+      located_started s start (later s p)
+
+  located_moves : (old : Log) (l : Line) (new : List Service) → IsKept old → All Now old.services
+      → Moves old (count + 1) l new → IsLine l
+      → ((rest : List ℕ) → IsLineAt (text ++ rest) (count + 1) (line_text l))
+      → (old.waits ≢ None → HasCommandIn text count) → All Next new
+  located_moves old l new kept all none_changes line there waits = all_later old.services all
+  located_moves old l new kept all (one_changes at s t here changes) line there waits =
+      All-set Next old.services at t
+      (located_change old l s t kept (all_get IsOrderly old.services at s kept.orderly here)
+      (all_get Now old.services at s all here) changes line there waits)
+      (all_later old.services all)
+  located_moves old l new kept all (one_added own start) line there waits =
+      All-push Next old.services (started (unseen own) start) (all_later old.services all)
+      (located_started (unseen own) start (located_new text (count + 1) own))
 
   -- where a call alone waits for its reply, its command is above
   waits_step : (old new : Log) (l : Line) → GoesOn old (count + 1) l new → IsLine l
@@ -346,14 +316,12 @@ module _ (text : List ℕ) (count : ℕ) where
 
 -- what is kept from line to line
 record ReadOn (text : List ℕ) (count : ℕ) (log : Log) : Type 0 where
-  kept : IsKept log
   cut : FollowsOn text count
   located : All (HasEventLinesTo text count) log.services
   waits : log.waits ≢ None → HasCommandIn text count
 
 read_on : (text : List ℕ) (count : ℕ) (log : Log) → HasRead text count log → ReadOn text count log
 read_on text count log (none_read l services callers waits) = record {
-  kept = kept_new log services callers waits;
   cut = λ rest line k at.
       let same : 0 + suc k ≡ suc k = omega arith in rw same at;
   located = rw services (All-nil (HasEventLinesTo [] 0));
@@ -362,7 +330,6 @@ read_on text count log (none_read l services callers waits) = record {
 read_on text count log (note_read before n l read first none is) =
     let r = read_on before n l read in
     record {
-      kept = r.kept;
       cut = follows_on before n first none r.cut;
       located = All-weaker (HasEventLinesTo before n) (HasEventLinesTo (before ++ (first ++ 10 ∷
           [])) (n + 1))
@@ -379,12 +346,11 @@ read_on text count log (line_read before n old read l is none new g) =
     let more = line_text l ++ 10 ∷ [] in
     let there = line_there before n (line_text l) none r.cut in
     record {
-      kept = kept_step old log (n + 1) l r.kept g;
       cut = follows_on before n (line_text l) none r.cut;
-      located = located_step (before ++ more) n old log l r.kept
+      located = located_moves (before ++ more) n old l log.services (kept_read before n old read)
           (All-weaker (HasEventLinesTo before n) (HasEventLinesTo (before ++ more) n)
           (λ s p. located_on before n s p more n (omega arith)) old.services r.located)
-          g is there (λ some. command_on before more n (r.waits some));
+          (moves_step old log (n + 1) l g) is there (λ some. command_on before more n (r.waits some));
       waits = waits_step (before ++ more) n old log l g is there;
     }
 

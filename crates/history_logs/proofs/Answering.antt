@@ -106,8 +106,6 @@ step_same first calls final n h same old new =
           ),
     )
 
--- calls of which the first ones agree
-
 pub changed_at : (f : Judged → Judged) (calls : List Judged) (number : ℕ) (c n : Judged)
     → c ≡ get_or calls number c → n ≡ f c → set calls number n ≡ changed f calls number
 changed_at f [] number c n is new = refl

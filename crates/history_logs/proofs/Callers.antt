@@ -21,7 +21,7 @@ use Rattle.std.proofs.lemmas.Map.Made.{Contains-from_values_of}
 use Rattle.std.proofs.lemmas.Map.Text.{is_eq-slice_cmp}
 use Rattle.std.proofs.lemmas.Map.Views.{lookup-from_Contains}
 use Rattle.std.proofs.lemmas.Slice.Eq.{bytes_eq-Decides}
-use Rattle.history_logs.specs.CallerFields.{AreOpen, Puts, callers_of, is_on, on_by, open_on}
+use Rattle.history_logs.specs.Parts.{AreOpen, Puts, callers_of, is_on, on_by, open_on}
 use Rattle.history_logs.specs.Reading.{MayBegin, NoneCalls, Sets}
 use Rattle.history_logs.specs.declared.logs.callers.CallerState.{CallerState}
 use Rattle.history_logs.specs.declared.logs.callers.CallerState.TheVariants as caller

@@ -1,5 +1,5 @@
--- What settles of all services while a log is read.
-use Rattle.history_logs.proofs.Words.{All, All-nil, AreNumbers, AreRightShort, AreSameFronts, AreShort, BTreeMap, Begin, Contains-push, Crash, End, Event, Front, GoesShort, HasNo, HasShort, HaveShort, IsAbove, IsOrderly, IsReadTo, IsSane, IsSeenRightly, IsShortAbove, List, Log, MayFollow, None, Option, Service, Some, StayAll, Stays, StepOf, Takes, Watched, [], ap, arith, cases_lt, end_verdict, eqb, front_at, get_or, get_or_default, inl, inr, length, length-set, news, numbers_in, refl, services_in, slice_get, slice_get_within, slice_set, subst, sum-map, sum_by, sym, take, take_all, true, ℕ, ◌++◌, ◌+◌, ◌<◌, ◌==◌, ◌∙◌, ◌∷◌, ◌≡◌, ◌≢◌, ◌≤◌}
+-- What is kept of a log while it is read, and what settles of all services.
+use Rattle.history_logs.proofs.Words.{All, All-nil, AreNumbers, AreRightShort, AreSameFronts, AreShort, BTreeMap, Begin, CallerState, Contains-push, Crash, End, Event, Front, GoesOn, GoesShort, HasHandles, HasNo, HasShort, HaveShort, IsAbove, IsKept, IsOrderly, IsReadTo, IsSane, IsSeenRightly, IsShort, IsShortAbove, Line, List, Log, MayFollow, NamedCommand, None, Option, Service, Some, StayAll, Stays, StepOf, Takes, Watched, [], ap, arith, cases_lt, end_verdict, eqb, front_at, get_or, get_or_default, get_or_past, inl, inr, length, length-set, news, nil_from_length, numbers_in, refl, services_in, slice_get, slice_get_within, slice_set, subst, sum-map, sum_by, sym, take, take_all, true, ℕ, ◌++◌, ◌+◌, ◌<◌, ◌==◌, ◌∙◌, ◌∷◌, ◌≡◌, ◌≢◌, ◌≤◌}
 use Rattle.histories.specs.Histories.{begun}
 use Rattle.std.proofs.Common.{get_or-set_other, get_or-set_same, sum}
 use Rattle.std.specs.Set.{distinct_count}
@@ -9,12 +9,121 @@ use Rattle.histories.proofs.Frontiers.{explains_none}
 use Rattle.histories.proofs.Growing.{goes_explained}
 use Rattle.service_conformance.specs.Looks.{unwatched}
 use Rattle.history_logs.specs.Logs.{Judged}
-use Rattle.history_logs.specs.Settling.{IsRightShort}
+use Rattle.history_logs.specs.Settling.{IsRightShort, IsShortLog}
+use Rattle.history_logs.specs.declared.logs.callers.CallerState.TheVariants as caller
 use Rattle.history_logs.proofs.Above.{above_more, read_whole}
-use Rattle.history_logs.proofs.AtIndex.{all_get, all_of}
+use Rattle.history_logs.proofs.AtIndex.{all_get, all_of, get_within}
 use Rattle.history_logs.proofs.Judgements.{judged_conforms}
 use Rattle.history_logs.proofs.Named.{map_same, same_numbers, set_back}
-use Rattle.history_logs.proofs.ShortLogs.{found_at, goes_line, short_put, short_sane}
+use Rattle.history_logs.proofs.Kept.{longer_step}
+use Rattle.history_logs.proofs.Shortened.{kept_call, short_alone, short_begins, short_end, short_new, short_over, short_started}
+use Rattle.history_logs.proofs.Together.{AreTogether, GoTogether, Keeps, found, goes_too, put}
+
+-- what is kept of a service goes together with it
+abbrev IsShortAt : List (Option (Front Watched)) → ℕ → Service → Service → Type 0
+IsShortAt fronts at live s = IsShort s live (front_at fronts at)
+
+together : (services live : List Service) (fronts : List (Option (Front Watched)))
+    → AreShort services live fronts → AreTogether (IsShortAt fronts) live services
+together services live fronts a =
+    record { long = a.0; each = λ at t s here there. a.2 at s t there here }
+
+-- the service that is kept at an index
+found_at : (services live : List Service) (fronts : List (Option (Front Watched))) (at : ℕ)
+    (t : Service) → AreShort services live fronts → slice_get live at ≡ Some t
+    → (s : Service) × (slice_get services at ≡ Some s) × IsShort s t (front_at fronts at)
+found_at services live fronts at t a =
+    found (IsShortAt fronts) live services (together services live fronts a) at t
+
+-- the service at an index is another one, and has another front
+short_put : (services live : List Service) (old new : List (Option (Front Watched))) (at : ℕ)
+    (s x t y : Service) → AreShort services live old → slice_get services at ≡ Some x
+    → slice_get live at ≡ Some y → length new ≡ length old
+    → ((i : ℕ) → i ≢ at → front_at new i ≡ front_at old i) → IsShort s t (front_at new at)
+    → AreShort (slice_set services at s) (slice_set live at t) new
+short_put services live old new at s x t y a there here long others short =
+    let both =
+    put (IsShortAt old) live services (together services live old a) (IsShortAt new) at y x t s here
+    there (λ i v w other is. rw (others i other) is) short in
+    (both.long, omega (arith, a.1, length-set services at s), λ i v w ev ew. both.each i w v ew ev)
+
+keeps_short : (fronts : List (Option (Front Watched))) → Keeps (IsShortAt fronts) (λ c d. c ≡ d)
+keeps_short fronts = record {
+  line = λ at live s h. sym (ap (λ (x : Service). x.line) h.is);
+  none = λ at live s h none. nil_from_length live.calls (h.count ∙ ap length none);
+  own = λ c. refl;
+  begins = λ at live s b k u n h. short_begins s live (front_at fronts at) h b k u n;
+  alone = λ at live s c d r k h orderly same.
+      rw (← same) (short_alone s live (front_at fronts at) h c r k orderly);
+  ends = λ at live s n r k h now. short_end s live (front_at fronts at) h n now.1 r k;
+  crash = λ at live s n k h. short_over s live (front_at fronts at) h (Crash n) k;
+  starts = λ at live s what start h. short_started s live (front_at fronts at) h what start;
+}
+
+one_wait : (a b : Option (ℕ × NamedCommand)) → (a ≡ None → b ≡ None)
+    → ((at : ℕ) (c : NamedCommand) → a ≡ Some (at, c)
+    → (d : NamedCommand) × (b ≡ Some (at, d)) × (c ≡ d)) → a ≡ b
+one_wait None b none some = sym (none refl)
+one_wait (Some w) b none some =
+    let d = some w.0 w.1 refl in ap (λ (c : NamedCommand). Some (w.0, c)) d.2 ∙ sym d.1
+
+-- one line more
+goes_line : (log live new : Log) (fronts : List (Option (Front Watched))) (k : ℕ)
+    → IsShortLog log live fronts → IsKept log → (l : Line) → GoesOn live k l new
+    → (more : Log) × GoesOn log k l more × IsShortLog more new fronts
+goes_line log live new fronts k h kept l g =
+    let before : GoTogether (IsShortAt fronts) (λ c d. c ≡ d) live log =
+    record {
+      services = together log.services live.services fronts h.services;
+      callers = sym h.callers;
+      none = λ e. sym h.waits ∙ e;
+      waits = λ at c e. (c, sym h.waits ∙ e, refl);
+    } in
+    let few = h.services.1 in
+    let goes =
+    goes_too (IsShortAt fronts) (λ c d. c ≡ d) (keeps_short fronts) live log k before kept
+    (λ line start. rw (get_or_past fronts (length live.services) None (omega (arith, h.services.0)))
+    (short_new line start)) new l g in
+    let after = goes.2 in (
+      goes.0,
+      goes.1,
+      record {
+        services = (
+          after.services.long,
+          omega (arith, longer_step log goes.0 k l goes.1),
+          λ at s t there here. after.services.each at t s here there,
+        );
+        callers = sym after.callers;
+        waits = one_wait new.waits goes.0.waits after.none after.waits;
+      },
+    )
+
+-- what is kept has what the parts need
+short_sane : (log live : Log) (fronts : List (Option (Front Watched)))
+    → IsShortLog log live fronts → IsKept log → IsSane live
+short_sane log live fronts h kept = record {
+  handles = all_of HasHandles live.services (λ i t here.
+      let f = found_at log.services live.services fronts i t h.services here in
+      let o = all_get IsOrderly log.services i f.0 kept.orderly f.1 in
+      record {
+        given = ap (λ (x : Service). length x.given) f.2.is ∙ (o.all.given ∙ sym f.2.count);
+        first = omega (arith, f.2.first, f.2.within, f.2.count);
+      });
+  opened = λ name at number e.
+      let does : log.callers name ≡ Some (caller.Calls at number) =
+      sym (ap (λ (f : List ℕ → Option CallerState). f name) h.callers) ∙ e in
+      let own = kept.opened name at number does in
+      let t = get_within live.services at
+      (omega (arith, h.services.0, slice_get_within log.services at own.0 own.1)) in
+      let is = h.services.2 at own.0 t.0 own.1 t.1 in
+      let o = all_get IsOrderly log.services at own.0 kept.orderly own.1 in (
+        t.0,
+        t.1,
+        omega (arith, o.numbered number own.2.0, is.count),
+        kept_call own.0 t.0 (front_at fronts at) is number own.2.1,
+      );
+  waits = λ at c e. omega (arith, h.services.0, kept.waits at c (sym h.waits ∙ e));
+}
 
 -- where no call was seen, nothing was
 explained_none : (s : Service) → IsOrderly s → length s.calls ≡ 0 → IsSeenRightly s

@@ -1,9 +1,10 @@
 -- The verdicts on a log exclude each other.
-use Rattle.history_logs.proofs.Words.{All, AllZip, Expected, IsExplained, IsKept, IsOrderly, IsSeenRightly, Judged as Call, List, Log, None, Refusal, SeenReply, Service, Some, StepOf, Watched, [], ap, arith, calls_in, eqb, inl, inr, length, news, same_Some, services_in, slice_get, subst, sum-map, sym, ℕ, ◌++◌, ◌+◌, ◌<◌, ◌∙◌, ◌∷◌, ◌≡◌, ◌≢◌}
+use Rattle.history_logs.proofs.Words.{All, AllZip, Expected, IsExplained, IsOrderly, IsSeenRightly, Judged as Call, List, Log, None, Refusal, SeenReply, Service, Some, StepOf, Watched, [], ap, arith, calls_in, eqb, inl, inr, length, news, services_in, slice_get, slice_get_within, subst, sum-map, sym, ℕ, ◌++◌, ◌+◌, ◌<◌, ◌∙◌, ◌∷◌, ◌≡◌, ◌≢◌}
 use Rattle.std.proofs.Common.{sum}
 use Rattle.std.specs.Global.{Vec}
 use Rattle.std.specs.Set.{distinct_count}
 use Rattle.std.proofs.lemmas.List.Elements.{All-contains}
+use Rattle.std.proofs.lemmas.Slice.Zip.{AllZip-long}
 use Rattle.histories.proofs.Following.{not_refused}
 use Rattle.histories.proofs.Passing.{explained_seen}
 use Rattle.iox2_dynamic.specs.Service as dynamic
@@ -20,16 +21,14 @@ use Rattle.service_descriptions.specs.declared.replay.machine.reply.Reply.TheVar
 use Rattle.history_logs.specs.declared.logs.verdict.Expected.TheVariants as expected
 use Rattle.history_logs.specs.Laws.{VerdictsExclude}
 use Rattle.history_logs.specs.Logs.{HasGood, IsBad, Judged, RefusesAt, RefusesIn}
-use Rattle.history_logs.specs.Reading.{HasRead}
-use Rattle.history_logs.specs.Reading.HasRead.{line, note, nothing}
 use Rattle.history_logs.specs.SameLogs.{IsSameCall, IsSameLog, IsSameReply, IsSameService}
 use Rattle.history_logs.specs.SameLogs.IsSameCall.{other_dead, other_stop, own_call}
 use Rattle.history_logs.specs.SameLogs.IsSameReply.{other_ids, own_reply}
-use Rattle.history_logs.proofs.AtIndex.{all_get, all_of}
-use Rattle.history_logs.proofs.Kept.{kept_new, kept_step}
+use Rattle.history_logs.proofs.AtIndex.{all_get, all_of, get_within}
 use Rattle.history_logs.proofs.Named.{map_same}
+use Rattle.history_logs.proofs.Kept.{kept_read}
 use Rattle.history_logs.proofs.Readings.{one_reading}
-use Rattle.history_logs.proofs.SameSeen.{same_number, same_service_start, zip_back, zip_get, zip_length}
+use Rattle.history_logs.proofs.SameSeen.{same_number, same_service_start, zip_at}
 use Rattle.history_logs.proofs.SameSteps.{no_wait}
 
 -- a cleanup with the same list
@@ -89,8 +88,14 @@ judged_same c d (other_stop start r s q) number old new step = (
 step_of : (s t : Service) → IsSameService s t → (old : Watched) (number : ℕ) (new : Watched)
     → StepOf s old number new → StepOf t old number new
 step_of s t p old number new step =
-    let d = zip_get IsSameCall s.calls t.calls step.1.0 step.0 p.calls step.1.2 in
-    (d.0, (step.1.0, step.1.1, d.1), judged_same step.0 d.0 d.2 number old new step.2)
+    let d =
+    get_within t.calls step.1.0 (omega (
+      arith,
+      AllZip-long IsSameCall s.calls t.calls p.calls,
+      slice_get_within s.calls step.1.0 step.0 step.1.2,
+    )) in
+    let same = zip_at IsSameCall s.calls t.calls step.1.0 step.0 d.0 p.calls step.1.2 d.1 in
+    (d.0, (step.1.0, step.1.1, d.1), judged_same step.0 d.0 same number old new step.2)
 
 pub right_same : (s t : Service) → IsSameService s t → IsSeenRightly s → IsSeenRightly t
 right_same s t p right =
@@ -106,17 +111,11 @@ pub all_right_same : (ss ts : List Service) → AllZip IsSameService ss ts
     → All IsSeenRightly ss → All IsSeenRightly ts
 all_right_same ss ts zip right =
     all_of IsSeenRightly ts (λ at t there.
-    let s = zip_back IsSameService ss ts at t zip there in
-    right_same s.0 t s.2 (all_get IsSeenRightly ss at s.0 right s.1))
-
--- what holds of all that was read of the first lines of a log
-pub kept_read : (text : List ℕ) (count : ℕ) (log : Log) → HasRead text count log → IsKept log
-kept_read text count log (nothing empty services callers waits) =
-    kept_new log services callers waits
-kept_read text count log (note above number old read first none is) =
-    kept_read above number old read
-kept_read text count log (line above number old read l is none new goes) =
-    kept_step old new (number + 1) l (kept_read above number old read) goes
+    let s =
+    get_within ss at
+    (omega (arith, AllZip-long IsSameService ss ts zip, slice_get_within ts at t there)) in
+    right_same s.0 t (zip_at IsSameService ss ts at s.0 t zip s.1 there)
+    (all_get IsSeenRightly ss at s.0 right s.1))
 
 -- where all that was seen is explained, no reply is refused
 pub none_refused : (services : List Service) (k : ℕ) (s : Service) (index : ℕ)
@@ -140,12 +139,10 @@ not_right text count log rest good right r is =
 same_counts : (log other : Log) → IsSameLog log other
     → (calls_in log ≡ calls_in other) × (services_in log.services ≡ services_in other.services)
 same_counts log other same =
-    let long = zip_length IsSameService log.services other.services same.services in
+    let long = AllZip-long IsSameService log.services other.services same.services in
     let pairs : (at : ℕ) (s t : Service) → slice_get log.services at ≡ Some s
     → slice_get other.services at ≡ Some t → IsSameService s t =
-    λ at s t there here.
-    let u = zip_get IsSameService log.services other.services at s same.services there in
-    subst (IsSameService s) (same_Some u.0 t (sym u.1 ∙ here)) u.2 in
+    λ at s t. zip_at IsSameService log.services other.services at s t same.services in
     let calls =
     map_same (λ (s : Service). length s.commands) log.services other.services long
     (λ at s t there here. ap (λ (x : Service). length x.commands) (pairs at s t there here).others)

@@ -3,6 +3,7 @@ use Rattle.history_logs.proofs.Words.{All, All-nil, All-push, AllPairs, Bool, Co
 use Rattle.std.proofs.Common.{not, ◌&&◌, filter, ltb}
 use Rattle.std.proofs.lemmas.Bool.{ltb-false, ltb-true, le-ltb}
 use Rattle.std.proofs.lemmas.List.Elements.{All-take}
+use Rattle.std.proofs.lemmas.List.Sums.{count_by-le-length, length-filter}
 use Rattle.histories.proofs.Verdicts.{explained_take}
 use Rattle.histories.specs.declared.window.Stop.TheVariants as stop
 use Rattle.histories.specs.declared.window.Verdict.{Verdict as WindowVerdict}
@@ -35,9 +36,8 @@ below_index k (p ∷ ps) (suc index) none =
     )
 
 below_length : (k : ℕ) (ps : List ℕ) → below k ps ≤ length ps
-below_length k [] = omega arith
-below_length k (p ∷ ps) =
-    omega (arith, kept (ltb p k) p (filter (λ x. ltb x k) ps), below_length k ps)
+below_length k ps =
+    omega (arith, length-filter (λ p. ltb p k) ps, count_by-le-length (λ p. ltb p k) ps)
 
 -- fewer are below less
 below_less : (j k : ℕ) (ps : List ℕ) → j ≤ k → below j ps ≤ below k ps

@@ -15,7 +15,7 @@ use Rattle.history_logs.specs.Judging.{AreOrdered, IsFoundByAll, is_refused}
 use Rattle.history_logs.specs.Orders.{IsOrderOf}
 use Rattle.history_logs.proofs.Named.{some_service}
 use Rattle.history_logs.proofs.Found.{first_next, first_none}
-use Rattle.history_logs.proofs.Telling.{zip_next}
+use Rattle.history_logs.proofs.Refusing.{zip_next}
 
 -- a bound is passed, and nothing comes before it
 bound_passed : (bytes : List ℕ) (services : List Service) (bad : Option (ℕ × Expected))

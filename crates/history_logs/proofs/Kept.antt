@@ -1,11 +1,14 @@
 -- What holds of all that is read holds after one line more.
-use Rattle.history_logs.proofs.Words.{All-nil, All-push, All-set, All-weaker, AreNumbers, BTreeMap, Begins, Begun, CallerState, Crashes, GoesOn, HasHandles, IsKept, IsOpen, IsOrderly, IsSane, Line, List, Log, NamedCommand, None, Option, Service, Sets, Some, TakesLine, [], ap, arith, begin, bytes_eq-Decides, call, called, calls_in, cases_Bool, cases_eq, command, crash, end, get_or, get_or_from_slice_get, get_set_other, given, inl, inr, length, length-append, length-set, refl, reply, same_Some, service, slice_get, slice_get_read, slice_get_within, slice_set, started, sum_by, sym, take, take-append_seam, take_all, unseen, weak, with_alone, with_crash, with_end, ℕ, ◌++◌, ◌+◌, ◌<◌, ◌∙◌, ◌∷◌, ◌≡◌, ◌≢◌, ◌≤◌, ◌⊎◌}
+use Rattle.history_logs.proofs.Words.{All-nil, All-push, All-set, All-weaker, AreNumbers, BTreeMap, Begins, Begun, CallerState, Crashes, GoesOn, HasHandles, IsKept, IsOpen, IsOrderly, IsSane, Line, List, Log, NamedCommand, None, Option, Says, SeenReply, Service, ServiceLine, Sets, Some, State, TakesLine, [], ap, arith, begin, bytes_eq-Decides, call, called, calls_in, cases_Bool, cases_eq, command, crash, end, get_or, get_or_from_slice_get, get_set_other, given, inl, inr, length, length-append, length-set, refl, reply, same_Some, service, slice_get, slice_get_read, slice_get_within, slice_set, started, sum_by, sym, take, take-append_seam, take_all, unseen, weak, with_alone, with_crash, with_end, ℕ, ◌++◌, ◌+◌, ◌<◌, ◌∙◌, ◌∷◌, ◌≡◌, ◌≢◌, ◌≤◌, ◌⊎◌}
 use Rattle.std.proofs.Common.{bytes_eq}
 use Rattle.std.proofs.Math.Seq.{take-length}
 use Rattle.std.proofs.lemmas.List.Sums.{sum_by-set, sum_by_push}
+use Rattle.iox2_dynamic.specs.Service as dynamic
 use Rattle.service_conformance.proofs.Given.{push_some}
 use Rattle.history_logs.specs.declared.logs.callers.CallerState.TheVariants as caller
 use Rattle.history_logs.specs.Good.{IsOpenOn}
+use Rattle.history_logs.specs.Reading.{HasRead}
+use Rattle.history_logs.specs.Reading.HasRead.{line as line_read, note as note_read, nothing as none_read}
 use Rattle.history_logs.proofs.AtIndex.{all_get, get_push, get_same}
 use Rattle.history_logs.proofs.Named.{numbers_set, same_numbers}
 use Rattle.history_logs.proofs.Orderly.{begun_of, open_alone, open_crashed, open_ended, orderly_alone, orderly_crash, orderly_end, orderly_new, orderly_started}
@@ -224,107 +227,133 @@ kept_step old new k (given number what) kept g =
           (orderly_started (unseen s.line) g.2 (orderly_new s.line)))
     ]
 
+-- what a line does to a service
+pub data Changes (old : Log) (k : ℕ) (s : Service) : Line → Service → Type 0 where
+  call_begins : (number : Option ℕ) (name : List ℕ) (b : Begun) (t : Service) (current : ℕ)
+      → Begins s b k t current → Changes old k s (begin number name b) t
+  call_alone : (c : NamedCommand) (words : List ℕ) (r : SeenReply) → old.waits ≢ None
+      → Says words r → Changes old k s (reply words) (with_alone s (called s c) r k)
+  call_ends : (number : ℕ) (name words : List ℕ) (r : SeenReply)
+      → (IsKept old → IsOpen s.events number) → Says words r
+      → Changes old k s (end name words) (with_end s number r k)
+  caller_dies : (number : ℕ) (name : List ℕ) → (IsKept old → IsOpen s.events number)
+      → Changes old k s (crash name) (with_crash s number k)
+  is_given : (number : Option ℕ) (what : State) (start : dynamic.Service) → s.calls ≡ []
+      → Changes old k s (given number what) (started s start)
+
+-- what a line does to all services: nothing; or it changes one; or it adds one
+pub data Moves (old : Log) (k : ℕ) (l : Line) : List Service → Type 0 where
+  none_changes : Moves old k l old.services
+  one_changes : (at : ℕ) (s t : Service) → slice_get old.services at ≡ Some s
+      → Changes old k s l t → Moves old k l (slice_set old.services at t)
+  one_added : (line : ServiceLine) (start : dynamic.Service)
+      → Moves old k l (old.services ++ started (unseen line) start ∷ [])
+
+moves_crashes : (old : Log) (new : List Service) (k : ℕ) (name : List ℕ)
+    (state : Option CallerState) → old.callers name ≡ state → Crashes old.services k state new
+    → Moves old k (crash name) new
+moves_crashes old new k name (Some caller.Idle) is does = rw does none_changes
+moves_crashes old new k name (Some (caller.Calls at number)) is does =
+    rw does.2 (one_changes at does.0 (with_crash does.0 number k) does.1 (caller_dies number name
+    (λ kept. open_at old.services at number does.0 does.1 (kept.opened name at number is))))
+moves_crashes old new k name _ is does = absurd does
+
+pub moves_step : (old new : Log) (k : ℕ) (l : Line) → GoesOn old k l new
+    → Moves old k l new.services
+moves_step old new k (service line) g = rw g.2 (one_added line (unseen line).start)
+moves_step old new k (call number c) g = rw g.4 none_changes
+moves_step old new k (reply words) g =
+    rw g.7 (one_changes g.0 g.2 (with_alone g.2 (called g.2 g.1) g.3 k) g.5 (call_alone g.1 words g.3
+    (λ none. let e = sym g.4 ∙ none in absurd (cc)) g.6))
+moves_step old new k (begin number name b) g =
+    rw g.5.3 (one_changes g.0 g.1 g.5.0 g.3.there (call_begins number name b g.5.0 g.5.1 g.5.2))
+moves_step old new k (end name words) g =
+    rw g.8 (one_changes g.0 g.2 (with_end g.2 g.1 g.3 k) g.6 (call_ends g.1 name words g.3
+    (λ kept. open_at old.services g.0 g.1 g.2 g.6 (kept.opened name g.0 g.1 g.5)) g.7))
+moves_step old new k (crash name) g =
+    moves_crashes old new.services k name (old.callers name) refl g.1
+moves_step old new k (given number what) g =
+    elim g.5 [
+      | inl first ↦
+          rw first.1 (one_changes g.0 g.1 (started g.1 g.2) g.4.there (is_given number what g.2 first.0.0))
+      | inr anew ↦ rw anew.1 (one_added g.1.line g.2)
+    ]
+
 -- how many commands were read on the service
 abbrev calls_of : Service → ℕ
 calls_of s = length s.commands
 
--- What a line does to the services: nothing; or it changes one, which keeps its line and has at
--- most one command more; or it adds one, which has none.
-data Moves : List Service → List Service → Type 0 where
-  stays : (ss : List Service) → Moves ss ss
-  sets : (ss : List Service) (at : ℕ) (s t : Service) → slice_get ss at ≡ Some s
-      → t.line ≡ s.line → calls_of t ≤ calls_of s + 1 → Moves ss (slice_set ss at t)
-  adds : (ss : List Service) (t : Service) → calls_of t ≡ 0 → Moves ss (ss ++ t ∷ [])
+-- a service keeps its line, and has at most one command more
+module _ (old : Log) (k : ℕ) (s : Service) where
+  one_more : calls_of s + 1 ≡ length (s.commands ++ length s.calls ∷ [])
+  one_more = omega (arith, length-append s.commands (length s.calls ∷ []))
 
--- what begins is one command more
-moves_begins : (ss : List Service) (at : ℕ) (s t : Service) (b : Begun) (k current : ℕ)
-    → slice_get ss at ≡ Some s → Begins s b k t current → Moves ss (slice_set ss at t)
-moves_begins ss at s t b k current there is =
-    let more = more_begins b is in sets ss at s t there more.0 more.1
-  where
-    one_more : calls_of s + 1 ≡ length (s.commands ++ length s.calls ∷ [])
-    one_more = omega (arith, length-append s.commands (length s.calls ∷ []))
-
-    more_begins : (b : Begun) → Begins s b k t current
-        → (t.line ≡ s.line) × (calls_of t ≤ calls_of s + 1)
-    more_begins (command c) is = rw is.0 (refl, omega (arith, one_more))
-    more_begins (weak r) (inl is) = rw is.2 (refl, omega (arith, one_more))
-    more_begins (weak r) (inr is) = rw is.1 (refl, omega (arith, one_more))
-
-moves_crashes : (ss new : List Service) (k : ℕ) (state : Option CallerState) → Crashes ss k state
-    new
-    → Moves ss new
-moves_crashes ss new k (Some caller.Idle) crashes = rw crashes (stays ss)
-moves_crashes ss new k (Some (caller.Calls at number)) crashes =
-    rw crashes.2
-    (sets ss at crashes.0 (with_crash crashes.0 number k) crashes.1 refl (omega arith))
-moves_crashes ss new k _ crashes = absurd crashes
-
-moves_step : (old new : Log) (k : ℕ) (l : Line) → GoesOn old k l new
-    → Moves old.services new.services
-moves_step old new k (service line) g = rw g.2 (adds old.services (unseen line) refl)
-moves_step old new k (call number c) g = rw g.4 (stays old.services)
-moves_step old new k (reply words) g =
-    let s = g.2 in
-    rw g.7 (sets old.services g.0 s (with_alone s (called s g.1) g.3 k) g.5 refl
-    (omega (arith, length-append s.commands (length s.calls ∷ []))))
-moves_step old new k (begin number name begun) g =
-    rw g.5.3 (moves_begins old.services g.0 g.1 g.5.0 begun k g.5.1 g.3.there g.5.2)
-moves_step old new k (end name words) g =
-    rw g.8 (sets old.services g.0 g.2 (with_end g.2 g.1 g.3 k) g.6 refl (omega arith))
-moves_step old new k (crash name) g =
-    moves_crashes old.services new.services k (old.callers name) g.1
-moves_step old new k (given number what) g =
-    elim g.5 [
-      | inl first ↦
-          rw first.1
-          (sets old.services g.0 g.1 (started g.1 g.2) g.4.there refl (omega arith))
-      | inr anew ↦ rw anew.1 (adds old.services (started (unseen g.1.line) g.2) refl)
-    ]
+  line_stays : (l : Line) (t : Service) → Changes old k s l t
+      → (t.line ≡ s.line) × (calls_of t ≤ calls_of s + 1)
+  line_stays l t (call_begins number name (command c) u current is) =
+      rw is.0 (refl, omega (arith, one_more))
+  line_stays l t (call_begins number name (weak r) u current (inl is)) =
+      rw is.2 (refl, omega (arith, one_more))
+  line_stays l t (call_begins number name (weak r) u current (inr is)) =
+      rw is.1 (refl, omega (arith, one_more))
+  line_stays l t (call_alone c words r some says) = (refl, omega (arith, one_more))
+  line_stays l t (call_ends number name words r live says) = (refl, omega arith)
+  line_stays l t (caller_dies number name live) = (refl, omega arith)
+  line_stays l t (is_given number what start none) = (refl, omega arith)
 
 -- how many commands were read then
-sum_set : (ss : List Service) (at : ℕ) (s t : Service) → slice_get ss at ≡ Some s
-    → calls_of t ≤ calls_of s + 1 → sum_by calls_of (slice_set ss at t) ≤ sum_by calls_of ss + 1
-sum_set ss at s t there less =
+sum_moves : (old : Log) (k : ℕ) (l : Line) (new : List Service) → Moves old k l new
+    → sum_by calls_of new ≤ sum_by calls_of old.services + 1
+sum_moves old k l new none_changes = omega arith
+sum_moves old k l new (one_changes at s t there changes) =
+    let ss = old.services in
     omega (
       arith,
+      (line_stays old k s l t changes).1,
       sum_by-set calls_of ss at t s (slice_get_within ss at s there),
       ap calls_of (get_or_from_slice_get ss at s s there),
     )
+sum_moves old k l new (one_added line start) =
+    omega (arith, sum_by_push calls_of old.services (started (unseen line) start))
 
-sum_moves : (ss new : List Service) → Moves ss new
-    → sum_by calls_of new ≤ sum_by calls_of ss + 1
-sum_moves ss new (stays x) = omega arith
-sum_moves ss new (sets x at s t there line less) = sum_set ss at s t there less
-sum_moves ss new (adds x t none) = omega (arith, sum_by_push calls_of ss t)
+longer : (old : Log) (k : ℕ) (l : Line) (new : List Service) → Moves old k l new
+    → (length old.services ≤ length new) × (length new ≤ length old.services + 1)
+longer old k l new none_changes = (omega arith, omega arith)
+longer old k l new (one_changes at s t there changes) =
+    let long = length-set old.services at t in (omega arith, omega arith)
+longer old k l new (one_added line start) =
+    let long = length-append old.services (started (unseen line) start ∷ []) in
+    (omega arith, omega arith)
+
+pub longer_step : (old new : Log) (k : ℕ) (l : Line) → GoesOn old k l new
+    → length old.services ≤ length new.services
+longer_step old new k l g = (longer old k l new.services (moves_step old new k l g)).0
 
 -- the services that were there have their numbers still
-numbers_moves : (m : BTreeMap ℕ ℕ) (ss new : List Service) → Moves ss new → AreNumbers m ss
-    → (length ss ≤ length new) × (length new ≤ length ss + 1)
-    × AreNumbers m (take (length ss) new)
-numbers_moves m ss new (stays x) are =
-    (omega arith, omega arith, rw (take-length ss) are)
-numbers_moves m ss new (sets x at s t there line less) are =
-    let long : length (slice_set ss at t) ≡ length ss = length-set ss at t in (
-      omega arith,
-      omega arith,
-      rw (take_all (length ss) (slice_set ss at t) (omega arith))
-          (same_numbers m ss (slice_set ss at t) (numbers_set ss at s t there line) are),
-    )
-numbers_moves m ss new (adds x t none) are =
-    let long = length-append ss (t ∷ []) in
-    (omega arith, omega arith, rw (take-append_seam ss (t ∷ [])) are)
+numbers_moves : (m : BTreeMap ℕ ℕ) (old : Log) (k : ℕ) (l : Line) (new : List Service)
+    → Moves old k l new → AreNumbers m old.services → AreNumbers m (take (length old.services) new)
+numbers_moves m old k l new none_changes are = rw (take-length old.services) are
+numbers_moves m old k l new (one_changes at s t there changes) are =
+    let ss = old.services in
+    let long : length (slice_set ss at t) ≡ length ss = length-set ss at t in
+    rw (take_all (length ss) (slice_set ss at t) (omega arith))
+    (same_numbers m ss (slice_set ss at t) (numbers_set ss at s t there
+    (line_stays old k s l t changes).0) are)
+numbers_moves m old k l new (one_added line start) are =
+    rw (take-append_seam old.services (started (unseen line) start ∷ [])) are
 
 pub numbers_line : (m : BTreeMap ℕ ℕ) (old new : Log) (k : ℕ) (text : List ℕ)
     → TakesLine old k text None new → AreNumbers m old.services
     → (length old.services ≤ length new.services) × (length new.services ≤ length old.services + 1)
     × AreNumbers m (take (length old.services) new.services)
-numbers_line m old new k text t =
-    numbers_moves m old.services new.services (moves_step old new k t.0 t.3)
+numbers_line m old new k text t are =
+    let moves = moves_step old new k t.0 t.3 in
+    let long = longer old k t.0 new.services moves in
+    (long.0, long.1, numbers_moves m old k t.0 new.services moves are)
 
 pub few_step : (old new : Log) (k : ℕ) (l : Line) → GoesOn old k l new
     → calls_in new ≤ calls_in old + 1
-few_step old new k l g = sum_moves old.services new.services (moves_step old new k l g)
+few_step old new k l g = sum_moves old k l new.services (moves_step old new k l g)
 
 -- nothing was read yet
 pub kept_new : (log : Log) → log.services ≡ [] → ((name : List ℕ) → log.callers name ≡ None)
@@ -336,6 +365,15 @@ kept_new log services callers waits = record {
   waits = none_waits log waits;
   none = λ e name. callers name;
 }
+
+-- what holds of all that was read of the first lines of a log
+pub kept_read : (text : List ℕ) (count : ℕ) (log : Log) → HasRead text count log → IsKept log
+kept_read text count log (none_read empty services callers waits) =
+    kept_new log services callers waits
+kept_read text count log (note_read above number old read first none is) =
+    kept_read above number old read
+kept_read text count log (line_read above number old read l is none new goes) =
+    kept_step old new (number + 1) l (kept_read above number old read) goes
 
 pub handles_of : (s : Service) → IsOrderly s → HasHandles s
 handles_of s o = record {

@@ -1,6 +1,5 @@
 -- The calls that a refused reply needs.
 use Rattle.history_logs.proofs.Words.{AreNeededLines, Begin, Bool, End, Event, IsExplained, IsHistory, IsOrderly, IsStop, IsWindowOf, Judged, List, Service, StandsAt, StepOf, Watched, Window, WindowStep, [], ap, append-nil, arith, begins, cases_Bool, cases_order, drop, events_of, false, flat_map, flat_map-append, get_or, get_or_from_slice_get, get_or_past, get_or_push, inl, inr, length, length-append, length-take-le, length_push, line_begun, news, one_more, refl, same_Some, slice_get_read, stands_begins, stands_take, sym, take, take-append-drop, take-append_seam, take-take, take_all, take_more, true, ℕ, ◌++◌, ◌+◌, ◌-◌, ◌<◌, ◌∙◌, ◌∷◌, ◌≡◌, ◌≤◌}
-use Rattle.std.proofs.lemmas.Bool.{cond_both}
 use Rattle.std.proofs.lemmas.List.{drop-append-le, length-drop, get_or_append_left}
 use Rattle.std.proofs.lemmas.List.Elements.{filter-append}
 use Rattle.histories.proofs.Events.{stands_right}
@@ -51,23 +50,10 @@ idle_push calls count idle news b t more new = record {
       ];
 }
 
--- the lines of an event that begins no call, and of one that does
-pub line_none : (begins lines : List ℕ) (kept : ℕ → Bool) (e : Event) → line_begun begins e ≡ []
-    → lines ≡ lines ++ flat_map (line_begun begins) (events_of kept (e ∷ []))
-line_none begins lines kept e none =
-    cond_both (kept (call_of e)) (e ∷ []) []
-    (λ (l : List Event). lines ≡ lines ++ flat_map (line_begun begins) l)
-    (λ _. rw none (sym (append-nil lines))) (λ _. sym (append-nil lines))
-
+-- the lines of an event that begins a call that is left out
 pub line_left : (begins lines : List ℕ) (kept : ℕ → Bool) (call : ℕ) → kept call ≡ false
     → lines ≡ lines ++ flat_map (line_begun begins) (events_of kept (Begin call ∷ []))
 line_left begins lines kept call f = rw f (sym (append-nil lines))
-
-pub line_kept : (begins lines news : List ℕ) (kept : ℕ → Bool) (call line : ℕ)
-    → kept call ≡ true → line ≡ get_or begins call 0 → news ≡ lines ++ line ∷ []
-    → news ≡ lines ++ flat_map (line_begun begins) (events_of kept (Begin call ∷ []))
-line_kept begins lines news kept call line t is new =
-    rw t (new ∙ ap (λ n. lines ++ n ∷ []) is)
 
 -- the lines of one event more
 pub lines_more : (begins : List ℕ) (kept : ℕ → Bool) (es : List Event) (i : ℕ) (d : Event)

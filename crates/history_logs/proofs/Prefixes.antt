@@ -1,12 +1,13 @@
 -- What is explained of a log down to a line is explained down to each line above it.
-use Rattle.history_logs.proofs.Words.{All, All-cons, All-head, All-nil, All-tail, Bool, Contains, HasNo, IsSeenRightly, List, Log, NoneRefused, Refusal, Service, [], ap, append-nil, append_assoc, arith, cases_Bool, cases_lt, false, if◌then◌else◌, inl, inr, length, length-append, line_text, refl, suc, sym, true, zero, ℕ, ◌++◌, ◌+◌, ◌-◌, ◌==◌, ◌∙◌, ◌∷◌, ◌≡◌, ◌≤◌, ◌⊎◌}
+use Rattle.history_logs.proofs.Words.{All, All-cons, All-head, All-nil, All-tail, Bool, Contains, GoesOn, IsSeenRightly, Line, List, Log, NoneRefused, Refusal, Service, [], ap, append_assoc, arith, cases_Bool, cases_lt, false, if◌then◌else◌, inl, inr, length, length-append, line_text, refl, suc, sym, true, zero, ℕ, ◌++◌, ◌+◌, ◌-◌, ◌==◌, ◌∙◌, ◌∷◌, ◌≡◌, ◌≤◌, ◌⊎◌}
 use Rattle.history_logs.specs.Laws.{LinesAboveAreExplained, OneLineIsRefused}
 use Rattle.history_logs.specs.Logs.{HasGood, IsFirstRefused, Judged, PassesBound, first_lines}
 use Rattle.history_logs.specs.Reading.{HasRead}
 use Rattle.history_logs.specs.Reading.HasRead.{line, note, nothing}
-use Rattle.history_logs.proofs.Excluding.{all_right_same, kept_read, not_right}
-use Rattle.history_logs.proofs.FirstLines.{lines_line, no_lines}
-use Rattle.history_logs.proofs.Readings.{behind, one_reading}
+use Rattle.history_logs.proofs.Excluding.{all_right_same, not_right}
+use Rattle.history_logs.proofs.FirstLines.{StandFirst, first_more, first_none, no_lines}
+use Rattle.history_logs.proofs.Kept.{kept_read}
+use Rattle.history_logs.proofs.Readings.{one_reading, read_above}
 use Rattle.history_logs.proofs.Unanswered.{Awaits, next_step}
 
 -- the calls that are open wait for their replies
@@ -19,79 +20,9 @@ read_awaits text count log (line above number old read l is none new goes) =
     (next_step old new (number + 1) l (kept_read above number old read)
     (read_awaits above number old read) goes).awaits
 
--- what was read of the first lines of those that were read
-record IsReadAbove (n : ℕ) (text : List ℕ) (log : Log) : Type 0 where
-  above : List ℕ
-  old : Log
-  read : HasRead above n old
-  after : List ℕ
-  whole : text ≡ above ++ after
-  back : All IsSeenRightly log.services → All IsSeenRightly old.services
-
-above_all : (n : ℕ) (text : List ℕ) (count : ℕ) (log : Log) → HasRead text count log → n ≡ count
-    → IsReadAbove n text log
-above_all n text count log read is = record {
-  above = text;
-  old = log;
-  read = rw is read;
-  after = [];
-  whole = sym (append-nil text);
-  back = λ right. right;
-}
-
-above_more : (n : ℕ) (text : List ℕ) (old new : Log) → IsReadAbove n text old → (more : List ℕ)
-    → (All IsSeenRightly new.services → All IsSeenRightly old.services)
-    → IsReadAbove n (text ++ more) new
-above_more n text old new up more back = record {
-  above = up.above;
-  old = up.old;
-  read = up.read;
-  after = up.after ++ more;
-  whole = ap (λ (l : List ℕ). l ++ more) up.whole ∙ append_assoc up.above up.after more;
-  back = λ right. up.back (back right);
-}
-
-read_above : (n : ℕ) (text : List ℕ) (count : ℕ) (log : Log) → HasRead text count log
-    → n ≤ count → IsReadAbove n text log
-read_above n text count log (nothing empty services callers waits) h =
-    above_all n [] 0 log (nothing empty services callers waits) (omega arith)
-read_above n text count log (note above number old read first none is) h =
-    elim (cases_lt n (number + 1)) [
-      | inr all ↦
-          above_all n _ _ _ (note above number old read first none is) (omega arith)
-      | inl less ↦
-          above_more n above old old (read_above n above number old read (omega arith))
-          (first ++ 10 ∷ []) (λ right. right)
-    ]
-read_above n text count log (line above number old read l is none new goes) h =
-    elim (cases_lt n (number + 1)) [
-      | inr all ↦
-          above_all n _ _ _ (line above number old read l is none new goes) (omega arith)
-      | inl less ↦
-          above_more n above old new (read_above n above number old read (omega arith))
-          (line_text l ++ 10 ∷ [])
-          (next_step old new (number + 1) l (kept_read above number old read)
-          (read_awaits above number old read) goes).back
-    ]
-
--- so many lines come first, and so many of the rest
-abbrev StandFirst : List ℕ → ℕ → Type 0
-StandFirst text count =
-    (k : ℕ) (rest : List ℕ) → first_lines (count + k) (text ++ rest) ≡ text ++ first_lines k rest
-
-first_more : (text : List ℕ) (count : ℕ) (own : List ℕ) → HasNo 10 own → StandFirst text count
-    → StandFirst (text ++ (own ++ 10 ∷ [])) (count + 1)
-first_more text count own none first k rest =
-    let next : count + 1 + k ≡ count + suc k = omega arith in
-    ap (first_lines (count + 1 + k)) (behind text own [] rest)
-    ∙ ap (λ i. first_lines i (text ++ (own ++ 10 ∷ rest))) next
-    ∙ first (suc k) (own ++ 10 ∷ rest) ∙ ap (λ (l : List ℕ). text ++ l) (lines_line k own rest none)
-    ∙ sym (behind text own [] (first_lines k rest))
-
 read_first : (text : List ℕ) (count : ℕ) (log : Log) → HasRead text count log
     → StandFirst text count
-read_first text count log (nothing empty services callers waits) =
-    λ k rest. let same : 0 + k ≡ k = omega arith in rw same refl
+read_first text count log (nothing empty services callers waits) = first_none
 read_first text count log (note above number old read first none is) =
     first_more above number first none (read_first above number old read)
 read_first text count log (line above number old read l is none new goes) =
@@ -131,18 +62,28 @@ lines_part (suc k) (b ∷ bytes) =
           let up = lines_part (suc k) bytes in (up.0, rw f (ap (λ (l : List ℕ). b ∷ l) up.1))
     ]
 
+-- what is explained of what is read with a line is explained of what is read above it
+right_up : (above : List ℕ) (number : ℕ) (old new : Log) (l : Line) → HasRead above number old
+    → GoesOn old (number + 1) l new → All IsSeenRightly new.services
+    → All IsSeenRightly old.services
+right_up above number old new l read goes =
+    (next_step old new (number + 1) l (kept_read above number old read)
+    (read_awaits above number old read) goes).back
+
 -- Where lines are good, so are the first ones of them, and what is explained of all is explained of
 -- these.
 good_above : (bytes : List ℕ) (n m : ℕ) → n ≤ m → (count : ℕ) (log : Log) (rest : List ℕ)
-    → HasGood (first_lines m bytes) count log rest
+    → HasGood (first_lines m bytes) count log rest → All IsSeenRightly log.services
     → (number : ℕ) × (old : Log) × (back : List ℕ) × HasGood (first_lines n bytes) number old back
-    × (All IsSeenRightly log.services → All IsSeenRightly old.services)
-good_above bytes n m h count log rest g =
+    × All IsSeenRightly old.services
+good_above bytes n m h count log rest g right =
     let same : first_lines n bytes ≡ first_lines n (g.text ++ rest) =
     sym (lines_lines n m bytes h) ∙ ap (first_lines n) g.spelled in
     elim (cases_lt n count) [
       | inl less ↦
-          let p = read_above n g.text count log g.read (omega arith) in
+          let p =
+          read_above (λ (x : Log). All IsSeenRightly x.services) right_up n g.text count log g.read
+          (omega arith) right in
           let all : g.text ++ rest ≡ p.above ++ (p.after ++ rest) =
           ap (λ (l : List ℕ). l ++ rest) p.whole ∙ append_assoc p.above p.after rest in
           let none : n ≡ n + 0 = omega arith in (
@@ -159,7 +100,7 @@ good_above bytes n m h count log rest g =
               ends = λ first after bars is.
                   absurd (omega (arith, ap length is, length-append first (10 ∷ after)));
             },
-            p.back,
+            p.holds,
           )
       | inr more ↦
           let k = n - count in
@@ -178,15 +119,15 @@ good_above bytes n m h count log rest g =
                   (part.1 ∙ ap (λ (l : List ℕ). l ++ part.0) is
                   ∙ append_assoc first (10 ∷ after) part.0);
             },
-            λ right. right,
+            right,
           )
     ]
 
 pub explained_above : LinesAboveAreExplained
 explained_above bytes n m h count other_count log other rest other_rest g w right =
-    let up = good_above bytes n m h other_count other other_rest w in
+    let up = good_above bytes n m h other_count other other_rest w right in
     let same = one_reading (first_lines n bytes) up.0 count up.1 log up.2 rest up.3 g in
-    all_right_same up.1.services log.services same.2.services (up.4 right)
+    all_right_same up.1.services log.services same.2.services up.4
 
 -- all is explained of the services, or a bound is passed
 some_bound : (ss : List Service) → All NoneRefused ss

@@ -1,6 +1,5 @@
 -- A log is read in one way.
-use Rattle.history_logs.proofs.Words.{HasNo, IsTrue, List, Log, None, Takes, [], ap, arith, before_one, cases_order, inl, inr, is_note, line_text, refl, subst, suc, sym, zero, ℕ, ◌++◌, ◌+◌, ◌-◌, ◌<◌, ◌∙◌, ◌∷◌, ◌≡◌, ◌⊎◌}
-use Rattle.std.proofs.Common.{append_assoc}
+use Rattle.history_logs.proofs.Words.{GoesOn, HasNo, IsTrue, Line, List, Log, None, Takes, [], ap, append-nil, append_assoc, arith, before_one, cases_lt, cases_order, inl, inr, is_note, line_text, refl, subst, suc, sym, zero, ℕ, ◌++◌, ◌+◌, ◌<◌, ◌∙◌, ◌∷◌, ◌≡◌, ◌≤◌, ◌⊎◌}
 use Rattle.log_lines.proofs.OneReading.{notes_are_none}
 use Rattle.history_logs.specs.Laws.{LogsHaveOneReading}
 use Rattle.history_logs.specs.Logs.{HasGood}
@@ -8,7 +7,8 @@ use Rattle.history_logs.specs.Reading.{HasRead}
 use Rattle.history_logs.specs.Reading.HasRead.{line, note, nothing}
 use Rattle.history_logs.specs.SameLogs.{IsSameLog}
 use Rattle.history_logs.proofs.OneLine.{same_line}
-use Rattle.history_logs.proofs.OneLine.IsSameLine.{own_line}
+use Rattle.history_logs.proofs.FirstLines.{behind}
+use Rattle.history_logs.proofs.Kept.{kept_read}
 use Rattle.history_logs.proofs.SameSteps.{step_same, step_too}
 
 -- nothing was read
@@ -58,13 +58,6 @@ last_line text count log (line above number old read l is none new goes) = inr (
   next = refl;
   takes = inr (l, is, refl, goes);
 })
-
--- a line between what is above it and what follows
-pub behind : (x first after rest : List ℕ)
-    → (x ++ (first ++ 10 ∷ after)) ++ rest ≡ x ++ (first ++ 10 ∷ (after ++ rest))
-behind x first after rest =
-    append_assoc x (first ++ 10 ∷ after) rest
-    ∙ ap (λ (l : List ℕ). x ++ l) (append_assoc first (10 ∷ after) rest)
 
 takes_same : (old other : Log) → IsSameLog old other → (k : ℕ) (text : List ℕ) (new next : Log)
     → Takes old k text None new → Takes other k text None next → IsSameLog new next
@@ -137,91 +130,92 @@ read_same (suc n) text other_text rest other_rest log other p q e =
       ]
     ]
 
--- of the lines that were read, so many stand above one that was read too
-record IsPart (n : ℕ) (text : List ℕ) : Type 0 where
-  above : List ℕ
-  old : Log
-  read : HasRead above n old
-  first : List ℕ
-  none : HasNo 10 first
-  after : List ℕ
-  whole : text ≡ above ++ (first ++ 10 ∷ after)
-  new : Log
-  takes : Takes old (n + 1) first None new
+-- what was read of the first lines of those that were read, and this holds of it
+pub record IsReadAbove (P : Log → Type 0) (n : ℕ) (text : List ℕ) : Type 0 where
+  pub above : List ℕ
+  pub old : Log
+  pub read : HasRead above n old
+  pub after : List ℕ
+  pub whole : text ≡ above ++ after
+  pub holds : P old
 
-part_last : (n : ℕ) (text : List ℕ) (log : Log) → IsStep text (n + 1) log → IsPart n text
-part_last n text log p =
-    let m : p.number ≡ n = omega (arith, p.next) in
-    record {
-      above = p.above;
-      old = p.old;
-      read = subst (λ k. HasRead p.above k p.old) m p.read;
-      first = p.first;
-      none = p.none;
-      after = [];
-      whole = p.whole;
-      new = log;
-      takes = subst (λ k. Takes p.old (k + 1) p.first None log) m p.takes;
-    }
+-- so it is where it holds of what is read above a line if it holds of what is read with it
+module _ (P : Log → Type 0) (up : (above : List ℕ) (number : ℕ) (old new : Log) (l : Line)
+    → HasRead above number old → GoesOn old (number + 1) l new → P new → P old) where
+  above_all : (n : ℕ) (text : List ℕ) (count : ℕ) (log : Log) → HasRead text count log → n ≡ count
+      → P log → IsReadAbove P n text
+  above_all n text count log read is p = record {
+    above = text;
+    old = log;
+    read = rw is read;
+    after = [];
+    whole = sym (append-nil text);
+    holds = p;
+  }
 
-part_more : (n count : ℕ) (text : List ℕ) (log : Log) (p : IsStep text count log)
-    → IsPart n p.above → IsPart n text
-part_more n count text log p up = record {
-  above = up.above;
-  old = up.old;
-  read = up.read;
-  first = up.first;
-  none = up.none;
-  after = up.after ++ (p.first ++ 10 ∷ []);
-  whole = p.whole ∙ (ap (λ (l : List ℕ). l ++ (p.first ++ 10 ∷ [])) up.whole
-      ∙ behind up.above up.first up.after (p.first ++ 10 ∷ []));
-  new = up.new;
-  takes = up.takes;
-}
+  above_more : (n : ℕ) (text more : List ℕ) → IsReadAbove P n text → IsReadAbove P n (text ++ more)
+  above_more n text more a = record {
+    above = a.above;
+    old = a.old;
+    read = a.read;
+    after = a.after ++ more;
+    whole = ap (λ (l : List ℕ). l ++ more) a.whole ∙ append_assoc a.above a.after more;
+    holds = a.holds;
+  }
 
-read_part : (n d : ℕ) (text : List ℕ) (count : ℕ) (log : Log) → count ≡ n + suc d
-    → HasRead text count log → IsPart n text
-read_part n zero text count log e read =
-    elim (last_line text count log read) [
-      | inl a ↦ absurd (omega (arith, a.0))
-      | inr p ↦
-          let last : count ≡ n + 1 = omega arith in
-          part_last n text log (subst (λ k. IsStep text k log) last p)
-    ]
-read_part n (suc d) text count log e read =
-    elim (last_line text count log read) [
-      | inl a ↦ absurd (omega (arith, a.0))
-      | inr p ↦
-          part_more n count text log p
-          (read_part n d p.above p.number p.old (omega (arith, p.next)) p.read)
-    ]
-
-one_text : (bytes x first after rest text other : List ℕ) → text ≡ x ++ (first ++ 10 ∷ after)
-    → bytes ≡ text ++ rest → bytes ≡ other → x ++ (first ++ 10 ∷ (after ++ rest)) ≡ other
-one_text bytes x first after rest text other is whole same =
-    sym (behind x first after rest)
-    ∙ (ap (λ (l : List ℕ). l ++ rest) (sym is) ∙ (sym whole ∙ same))
+  pub read_above : (n : ℕ) (text : List ℕ) (count : ℕ) (log : Log) → HasRead text count log
+      → n ≤ count → P log → IsReadAbove P n text
+  read_above n text count log (nothing empty services callers waits) h p =
+      above_all n [] 0 log (nothing empty services callers waits) (omega arith) p
+  read_above n text count log (note above number old read first none is) h p =
+      elim (cases_lt n (number + 1)) [
+        | inr all ↦ above_all n _ _ _ (note above number old read first none is) (omega arith) p
+        | inl less ↦
+            above_more n above (first ++ 10 ∷ []) (read_above n above number old read (omega arith)
+            p)
+      ]
+  read_above n text count log (line above number old read l is none new goes) h p =
+      elim (cases_lt n (number + 1)) [
+        | inr all ↦
+            above_all n _ _ _ (line above number old read l is none new goes) (omega arith) p
+        | inl less ↦
+            above_more n above (line_text l ++ 10 ∷ []) (read_above n above number old read
+            (omega arith) (up above number old new l read goes p))
+      ]
 
 -- where no line may come next, no more are read
+no_step : (bytes : List ℕ) (count : ℕ) (log : Log) (rest : List ℕ) → HasGood bytes count log rest
+    → (text after : List ℕ) (new : Log) → bytes ≡ text ++ after → ¬ (IsStep text (count + 1) new)
+no_step bytes count log rest g text after new spelled p =
+    let m : p.number ≡ count = omega (arith, p.next) in
+    let whole : p.above ++ (p.first ++ 10 ∷ after) ≡ g.text ++ rest =
+    sym (behind p.above p.first [] after)
+    ∙ (ap (λ (l : List ℕ). l ++ after) (sym p.whole) ∙ (sym spelled ∙ g.spelled)) in
+    let same =
+    read_same count p.above g.text (p.first ++ 10 ∷ after) rest p.old log
+    (subst (λ k. HasRead p.above k p.old) m p.read) g.read whole in
+    let ends = g.ends p.first after p.none (sym same.0) in
+    elim (subst (λ k. Takes p.old (k + 1) p.first None new) m p.takes) [
+      | inl is ↦ ends.0 is.0
+      | inr l ↦
+          let goes =
+          step_too p.old log same.1 (kept_read g.text count log g.read) (count + 1) new l.0 l.3 in
+          ends.1 l.0 goes.0 l.1 l.2 goes.1
+    ]
+
 no_more : (bytes : List ℕ) (count : ℕ) (log : Log) (rest : List ℕ) → HasGood bytes count log rest
     → (n : ℕ) (other : Log) (other_rest : List ℕ) → HasGood bytes n other other_rest
     → ¬ (count < n)
 no_more bytes count log rest g n other other_rest h less =
-    let p =
-    read_part count (n - count - 1) h.text n other (omega arith) h.read in
-    let after = p.after ++ other_rest in
-    let whole : p.above ++ (p.first ++ 10 ∷ after) ≡ g.text ++ rest =
-    one_text bytes p.above p.first p.after other_rest h.text (g.text ++ rest) p.whole h.spelled
-    g.spelled in
-    let same =
-    read_same count p.above g.text (p.first ++ 10 ∷ after) rest p.old log p.read g.read whole in
-    let ends = g.ends p.first after p.none (sym same.0) in
-    elim p.takes [
-      | inl is ↦ ends.0 is.0
-      | inr l ↦
-          let goes =
-          step_too p.old log same.1 (count + 1) p.new l.0 l.0 (own_line l.0) l.3 in
-          ends.1 l.0 goes.0 l.1 l.2 goes.1
+    let a =
+    read_above (λ x. Unit {0}) (λ above number old new l read goes p. tt) (count + 1) h.text n other
+    h.read (omega arith) tt in
+    let spelled : bytes ≡ a.above ++ (a.after ++ other_rest) =
+    h.spelled ∙ (ap (λ (l : List ℕ). l ++ other_rest) a.whole
+    ∙ append_assoc a.above a.after other_rest) in
+    elim (last_line a.above (count + 1) a.old a.read) [
+      | inl none ↦ absurd (omega (arith, none.0))
+      | inr p ↦ no_step bytes count log rest g a.above (a.after ++ other_rest) a.old spelled p
     ]
 
 pub one_reading : LogsHaveOneReading

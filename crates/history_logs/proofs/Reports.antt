@@ -1,8 +1,6 @@
 -- What is written: texts in parts, and counts after counts.
-use Rattle.history_logs.proofs.Words.{AddsCounts, All-nil, All-push, Appends, Err, List, Ok, Option, Result, [], ap, append-nil, append_assoc, codes, decimal, inl, inr, refl, subst, sym, ℕ, ◌++◌, ◌∙◌, ◌∷◌, ◌≡◌, ◌≢◌}
+use Rattle.history_logs.proofs.Words.{AddsCounts, All-nil, All-push, Appends, Err, List, Ok, Option, Result, [], ap, append-nil, append_assoc, codes, inl, inr, refl, subst, sym, ℕ, ◌++◌, ◌∙◌, ◌∷◌, ◌≡◌, ◌≢◌}
 use Rattle.std.specs.Prelude.{OnErr, OnOk}
-use Rattle.std.proofs.lemmas.Bool.{eq-eqb, ne_eqb}
-use Rattle.history_logs.specs.Reports.{refused_text}
 use Rattle.std.proofs.KnownBytes.{Appends-nil}
 use Rattle.std.proofs.lemmas.List.Elements.{All-append}
 use Rattle.std.proofs.lemmas.List.Folds.{concat-append}
@@ -14,34 +12,6 @@ use Rattle.history_logs.specs.Progress.{IsCount, count_text}
 pub two_parts : (old a b p q : List ℕ) → a ≡ old ++ p → b ≡ a ++ q → b ≡ old ++ (p ++ q)
 two_parts old a b p q e f =
     f ∙ rw e (append_assoc old p q)
-
-pub four_parts : (old a b c d p q r s : List ℕ) → a ≡ old ++ p → b ≡ a ++ q → c ≡ b ++ r
-    → d ≡ c ++ s → d ≡ old ++ (p ++ (q ++ (r ++ s)))
-four_parts old a b c d p q r s e f g h =
-    two_parts old a d p (q ++ (r ++ s)) e (two_parts a b d q (r ++ s) f (two_parts b c d r s g h))
-
--- a reply that no order explains: that of the line, or one above it
-module _ (old one new : List ℕ) (line reply : ℕ) (e : one ≡ old ++ (codes "line " ++ decimal line))
-  where
-    pub refused_own : reply ≡ line
-        → new ≡ one ++ codes ": no order of the calls explains this reply"
-        → new ≡ old ++ refused_text line reply
-    unfolding refused_text
-    refused_own same f =
-        let is = eq-eqb reply line same in
-        rw is (two_parts old one new (codes "line " ++ decimal line)
-        (codes ": no order of the calls explains this reply") e f)
-
-    pub refused_above : reply ≢ line
-        → new ≡ one ++ (codes ": with this reply no order of the calls explains that in line "
-        ++ decimal reply)
-        → new ≡ old ++ refused_text line reply
-    unfolding refused_text
-    refused_above other f =
-        let is = ne_eqb reply line other in
-        rw is (two_parts old one new (codes "line " ++ decimal line)
-        (codes ": with this reply no order of the calls explains that in line " ++ decimal reply)
-        e f)
 
 -- nothing is no count
 pub no_counts : (a : Option (List ℕ)) → AddsCounts a a

@@ -1,6 +1,7 @@
 -- What was seen of services stays the same, but for the memory of lists, whatever a line adds.
-use Rattle.history_logs.proofs.Words.{AllZip, Begins, Begun, Judged, List, NamedCommand, None, Option, Part, SeenReply, Service, Some, [], added_by, ap, called, calls_answered, calls_shown, changed, command, given_in, inl, inr, judged_answered, length, nil_from_length, numbered, refl, role_added, same_Some, shown, slice_get, slice_set, start_of, started, starting, stopped, stopping, subst, suc, sym, weak, with_alone, with_begin, with_crash, with_end, with_look, with_over, with_part, zero, ℕ, ◌+◌, ◌∙◌, ◌∷◌, ◌≡◌, ◌≢◌}
+use Rattle.history_logs.proofs.Words.{AllZip, Begins, Begun, Judged, List, NamedCommand, None, Option, Part, SeenReply, Service, Some, [], added_by, ap, called, calls_answered, calls_shown, changed, command, given_in, inl, inr, judged_answered, length, nil_from_length, numbered, option_and_then, refl, role_added, same_Some, shown, slice_get, slice_set, start_of, started, starting, stopped, stopping, subst, suc, sym, weak, with_alone, with_begin, with_crash, with_end, with_look, with_over, with_part, zero, ℕ, ◌+◌, ◌∙◌, ◌∷◌, ◌≡◌, ◌≢◌}
 use Rattle.std.proofs.lemmas.List.Elements.{AllZip-push}
+use Rattle.std.proofs.lemmas.Slice.Zip.{AllZip-long}
 use Rattle.iox2_config.specs.declared.hash.input.PatternKind.{PatternKind}
 use Rattle.iox2_config.specs.declared.hash.input.PatternKind.TheVariants as kind
 use Rattle.iox2_container.specs.declared.container.handle.Role.{Role}
@@ -26,21 +27,20 @@ use Rattle.history_logs.proofs.OneLine.IsSameBegun.{other_begun, own_begun}
 
 -- lists whose elements go together
 module _ {X : Type 0} (R : X → X → Type 0) where
-  pub zip_get : (xs ys : List X) (i : ℕ) (x : X) → AllZip R xs ys → slice_get xs i ≡ Some x
-      → (y : X) × (slice_get ys i ≡ Some y) × R x y
-  zip_get [] ys i x zip e = absurd (cc)
-  zip_get (a ∷ xs) [] i x zip e = absurd zip
-  zip_get (a ∷ xs) (b ∷ ys) zero x zip e =
-      (b, refl, subst (λ c. R c b) (same_Some a x e) zip.0)
-  zip_get (a ∷ xs) (b ∷ ys) (suc i) x zip e = zip_get xs ys i x zip.1 e
+  pub zip_at : (xs ys : List X) (i : ℕ) (x y : X) → AllZip R xs ys → slice_get xs i ≡ Some x
+      → slice_get ys i ≡ Some y → R x y
+  zip_at [] ys i x y zip e f = absurd (cc)
+  zip_at (a ∷ xs) [] i x y zip e f = absurd zip
+  zip_at (a ∷ xs) (b ∷ ys) zero x y zip e f = rw (← same_Some a x e, ← same_Some b y f) zip.0
+  zip_at (a ∷ xs) (b ∷ ys) (suc i) x y zip e f = zip_at xs ys i x y zip.1 e f
 
-  pub zip_back : (xs ys : List X) (i : ℕ) (y : X) → AllZip R xs ys → slice_get ys i ≡ Some y
-      → (x : X) × (slice_get xs i ≡ Some x) × R x y
-  zip_back [] [] i y zip e = absurd (cc)
-  zip_back [] (b ∷ ys) i y zip e = absurd zip
-  zip_back (a ∷ xs) [] i y zip e = absurd zip
-  zip_back (a ∷ xs) (b ∷ ys) zero y zip e = (a, refl, subst (R a) (same_Some b y e) zip.0)
-  zip_back (a ∷ xs) (b ∷ ys) (suc i) y zip e = zip_back xs ys i y zip.1 e
+  zip_read : {Y : Type 0} (f : Option X → Y) → ((x y : X) → R x y → f (Some y) ≡ f (Some x))
+      → (xs ys : List X) (i : ℕ) → AllZip R xs ys → f (slice_get ys i) ≡ f (slice_get xs i)
+  zip_read f each [] [] i zip = refl
+  zip_read f each [] (b ∷ ys) i zip = absurd zip
+  zip_read f each (a ∷ xs) [] i zip = absurd zip
+  zip_read f each (a ∷ xs) (b ∷ ys) zero zip = each a b zip.0
+  zip_read f each (a ∷ xs) (b ∷ ys) (suc i) zip = zip_read f each xs ys i zip.1
 
   pub zip_set : (xs ys : List X) (i : ℕ) (x y : X) → AllZip R xs ys → R x y
       → AllZip R (slice_set xs i x) (slice_set ys i y)
@@ -50,13 +50,7 @@ module _ {X : Type 0} (R : X → X → Type 0) where
   zip_set (a ∷ xs) (b ∷ ys) zero x y zip r = (r, zip.1)
   zip_set (a ∷ xs) (b ∷ ys) (suc i) x y zip r = (zip.0, zip_set xs ys i x y zip.1 r)
 
-  pub zip_length : (xs ys : List X) → AllZip R xs ys → length ys ≡ length xs
-  zip_length [] [] zip = refl
-  zip_length [] (b ∷ ys) zip = absurd zip
-  zip_length (a ∷ xs) [] zip = absurd zip
-  zip_length (a ∷ xs) (b ∷ ys) zip = ap suc (zip_length xs ys zip.1)
-
-  pub zip_own : ((x : X) → R x x) → (xs : List X) → AllZip R xs xs
+  zip_own : ((x : X) → R x x) → (xs : List X) → AllZip R xs xs
   zip_own own [] = tt
   zip_own own (x ∷ xs) = (own x, zip_own own xs)
 
@@ -117,19 +111,11 @@ AreSame cs ds = AllZip IsSameCall cs ds
 
 same_start : (cs ds : List Judged) (number : ℕ) → AreSame cs ds
     → start_of ds number ≡ start_of cs number
-same_start [] [] number zip = refl
-same_start [] (d ∷ ds) number zip = absurd zip
-same_start (c ∷ cs) [] number zip = absurd zip
-same_start (c ∷ cs) (d ∷ ds) zero zip = same_stopped c d zip.0
-same_start (c ∷ cs) (d ∷ ds) (suc number) zip = same_start cs ds number zip.1
+same_start = zip_read IsSameCall (option_and_then stopped) same_stopped
 
 same_added : (cs ds : List Judged) (number : ℕ) → AreSame cs ds
     → added_by (slice_get ds number) ≡ added_by (slice_get cs number)
-same_added [] [] number zip = refl
-same_added [] (d ∷ ds) number zip = absurd zip
-same_added (c ∷ cs) [] number zip = absurd zip
-same_added (c ∷ cs) (d ∷ ds) zero zip = same_role c d zip.0
-same_added (c ∷ cs) (d ∷ ds) (suc number) zip = same_added cs ds number zip.1
+same_added = zip_read IsSameCall added_by same_role
 
 same_changed : (f g : Judged → Judged)
     → ((c d : Judged) → IsSameCall c d → IsSameCall (f c) (g d))
@@ -173,7 +159,7 @@ called_stays s calls (release r slot ticket) = refl
 
 module _ (s t : Service) (p : IsSameService s t) where
   long : length t.calls ≡ length s.calls
-  long = zip_length IsSameCall s.calls t.calls p.calls
+  long = AllZip-long IsSameCall s.calls t.calls p.calls
 
   pub same_number : t.line.number ≡ s.line.number
   same_number = ap (λ (x : Service). x.line.number) p.others
@@ -324,9 +310,10 @@ module _ (s t : Service) (p : IsSameService s t) (k : ℕ) where
   same_begins b d (own_begun x) = own_begins x
   same_begins b d (other_begun x y same) = begins_command x y same
 
-  weak_too : (r : Role) (u : Service) (m : ℕ) → Begins s (weak r) k u m
-      → (v : Service) × Begins t (weak r) k v m
-  weak_too r u m (inl a) = (
+  pub begins_too : (b : Begun) (u : Service) (m : ℕ) → Begins s b k u m
+      → (v : Service) × Begins t b k v m
+  begins_too (command c) u m a = (with_begin t (called t c) k, (refl, a.1 ∙ sym (long s t p)))
+  begins_too (weak r) u m (inl a) = (
     with_look t a.0 k,
     inl (
       a.0,
@@ -335,7 +322,7 @@ module _ (s t : Service) (p : IsSameService s t) (k : ℕ) where
       a.3 ∙ ap (λ x. x + 1) (sym (long s t p)),
     ),
   )
-  weak_too r u m (inr a) = (
+  begins_too (weak r) u m (inr a) = (
     with_begin t (called t (numbered (script.List r))) k,
     inr (
       subst (λ x. LacksPart x r) (sym same_patterns) a.0,
@@ -343,17 +330,3 @@ module _ (s t : Service) (p : IsSameService s t) (k : ℕ) where
       a.2 ∙ sym (long s t p),
     ),
   )
-
-  command_too : (c d : NamedCommand) (u : Service) (m : ℕ) → Begins s (command c) k u m
-      → (v : Service) × Begins t (command d) k v m
-  command_too c d u m a = (with_begin t (called t d) k, (refl, a.1 ∙ sym (long s t p)))
-
-  own_too : (b : Begun) (u : Service) (m : ℕ) → Begins s b k u m
-      → (v : Service) × Begins t b k v m
-  own_too (command c) = command_too c c
-  own_too (weak r) = weak_too r
-
-  pub begins_too : (b d : Begun) → IsSameBegun b d → (u : Service) (m : ℕ) → Begins s b k u m
-      → (v : Service) × Begins t d k v m
-  begins_too b d (own_begun x) = own_too x
-  begins_too b d (other_begun x y same) = command_too x y

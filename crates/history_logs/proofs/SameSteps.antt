@@ -1,7 +1,8 @@
 -- A line leads to the same, but for the memory of lists, from what is the same.
-use Rattle.history_logs.proofs.Words.{AllZip, CallerState, Crashes, Gives, GoesOn, IsNamed, Line, List, Log, MayBegin, NamedCommand, None, NoneCalls, Option, Service, Sets, Some, State, [], ap, begin, call, called, crash, end, false, given, inl, inr, refl, reply, same_Some, service, slice_get, slice_set, started, subst, sym, unseen, with_alone, with_crash, with_end, ℕ, ◌++◌, ◌∙◌, ◌∷◌, ◌≡◌, ◌≢◌}
+use Rattle.history_logs.proofs.Words.{AllZip, CallerState, Crashes, Gives, GoesOn, IsKept, IsNamed, Line, List, Log, NamedCommand, None, Option, Service, Sets, Some, State, [], ap, begin, call, called, crash, end, false, given, inl, inr, refl, reply, same_Some, service, slice_set, started, subst, sym, unseen, ℕ, ◌++◌, ◌∙◌, ◌∷◌, ◌≡◌}
 use Rattle.log_lines.specs.Commands.{Begun}
 use Rattle.std.proofs.lemmas.List.Elements.{AllZip-push}
+use Rattle.std.proofs.lemmas.Slice.Zip.{AllZip-long}
 use Rattle.iox2_dynamic.specs.Service as dynamic
 use Rattle.log_lines.specs.States.State.{nodes, ports, entry}
 use Rattle.service_conformance.specs.Given.{with_last, with_ports, with_used}
@@ -12,14 +13,14 @@ use Rattle.service_descriptions.specs.declared.replay.machine.command.Command.Th
 use Rattle.history_logs.specs.declared.logs.callers.CallerState.TheVariants as caller
 use Rattle.history_logs.specs.SameLogs.{IsSameCommand, IsSameLog, IsSameService, IsSameWait}
 use Rattle.history_logs.specs.SameLogs.IsSameCommand.{own_command}
-use Rattle.history_logs.proofs.AtIndex.{all_get, all_of}
+use Rattle.history_logs.specs.SameLogs.IsSameReply.{own_reply}
 use Rattle.history_logs.proofs.Kept.{cases_name}
 use Rattle.history_logs.proofs.Named.{one_index, one_named}
-use Rattle.history_logs.proofs.OneLine.{IsSameBegun, IsSameLine}
+use Rattle.history_logs.proofs.OneLine.{IsSameBegun, IsSameLine, same_says}
 use Rattle.history_logs.proofs.OneLine.IsSameBegun.{own_begun}
 use Rattle.history_logs.proofs.OneLine.IsSameLine.{other_begin, other_call, own_line}
-use Rattle.history_logs.proofs.OneReply.{same_says}
-use Rattle.history_logs.proofs.SameSeen.{begins_too, own_service, same_alone, same_begins, same_called, same_crash, same_end, same_none, same_number, same_service_start, same_some, same_started, zip_back, zip_get, zip_set}
+use Rattle.history_logs.proofs.SameSeen.{begins_too, own_service, same_alone, same_begins, same_called, same_crash, same_end, same_none, same_service_start, same_some, same_started, zip_at, zip_set}
+use Rattle.history_logs.proofs.Together.{AreTogether, Keeps, goes_too, named_too}
 
 -- what is given of a service makes one service
 gives_one : (old : dynamic.Service) (what : State) (a b : dynamic.Service) → Gives old what a
@@ -65,6 +66,9 @@ a_wait (Some a) (Some b) same at c e =
       subst (λ x. IsSameCommand x b.1) (ap (λ (p : ℕ × NamedCommand). p.1) is) same.1,
     )
 
+same_line : (at : ℕ) (s t : Service) → IsSameService s t → t.line ≡ s.line
+same_line at s t p = ap (λ (x : Service). x.line) p.others
+
 -- a crash
 crash_same : (ss ts : List Service) (k : ℕ) (state : Option CallerState) (us vs : List Service)
     → AllZip IsSameService ss ts → Crashes ss k state us → Crashes ts k state vs
@@ -73,77 +77,26 @@ crash_same ss ts k None us vs zip a b = absurd a
 crash_same ss ts k (Some caller.Dead) us vs zip a b = absurd a
 crash_same ss ts k (Some caller.Idle) us vs zip a b = rw (a, b) zip
 crash_same ss ts k (Some (caller.Calls at number)) us vs zip a b =
-    let t = zip_get IsSameService ss ts at a.0 zip a.1 in
-    let is : t.0 ≡ b.0 = same_Some t.0 b.0 (sym t.1 ∙ b.1) in
     rw (a.2, b.2) (zip_set IsSameService ss ts at _ _ zip
-    (same_crash a.0 b.0 (subst (IsSameService a.0) is t.2) number k))
-
-crash_too : (ss ts : List Service) (k : ℕ) (state : Option CallerState) (us : List Service)
-    → AllZip IsSameService ss ts → Crashes ss k state us
-    → (vs : List Service) × Crashes ts k state vs
-crash_too ss ts k None us zip a = absurd a
-crash_too ss ts k (Some caller.Dead) us zip a = absurd a
-crash_too ss ts k (Some caller.Idle) us zip a = (ts, refl)
-crash_too ss ts k (Some (caller.Calls at number)) us zip a =
-    let t = zip_get IsSameService ss ts at a.0 zip a.1 in
-    (slice_set ts at (with_crash t.0 number k), (t.0, t.1, refl))
+    (same_crash a.0 b.0 (zip_at IsSameService ss ts at a.0 b.0 zip a.1 b.1) number k))
 
 module _ (old other : Log) (same : IsSameLog old other) where
-  get_too : (at : ℕ) (s : Service) → slice_get old.services at ≡ Some s
-      → (t : Service) × (slice_get other.services at ≡ Some t) × IsSameService s t
-  get_too at s there = zip_get IsSameService old.services other.services at s same.services there
-
-  get_back : (at : ℕ) (t : Service) → slice_get other.services at ≡ Some t
-      → (s : Service) × (slice_get old.services at ≡ Some s) × IsSameService s t
-  get_back at t there = zip_back IsSameService old.services other.services at t same.services there
-
-  get_same : (at bt : ℕ) (s t : Service) → at ≡ bt → slice_get old.services at ≡ Some s
-      → slice_get other.services bt ≡ Some t → IsSameService s t
-  get_same at bt s t e a b =
-      let u = get_too at s a in
-      subst (IsSameService s) (same_Some u.0 t (sym u.1 ∙ (ap (slice_get other.services) e ∙ b)))
-      u.2
-
-  number_back : (at : ℕ) (t : Service) → slice_get other.services at ≡ Some t
-      → (s : Service) × (slice_get old.services at ≡ Some s) × (t.line.number ≡ s.line.number)
-  number_back at t there = let s = get_back at t there in (s.0, s.1, same_number s.0 t s.2)
-
-  named_too : (number : Option ℕ) (at : ℕ) (s : Service) → IsNamed number old.services at s
-      → (t : Service) × IsNamed number other.services at t × IsSameService s t
-  named_too number at s n =
-      let t = get_too at s n.there in
-      let own : t.0.line.number ≡ s.line.number = same_number s t.0 t.2 in (
-        t.0,
-        record {
-          there = t.1;
-          named = elim n.named [
-            | inl is ↦ inl (is ∙ ap Some (sym own))
-            | inr none ↦ inr (
-              none.0,
-              all_of (λ (x : Service). x.line.number ≡ t.0.line.number) other.services
-                  (λ i y e.
-                  let x = number_back i y e in
-                  x.2 ∙ (all_get (λ (z : Service). z.line.number ≡ s.line.number) old.services
-                  i x.0 none.1 x.1 ∙ sym own)),
-            )
-          ];
-          last = λ later y less e is.
-              let x = number_back later y e in
-              n.last later x.0 less x.1 (sym x.2 ∙ (is ∙ own));
-        },
-        t.2,
-      )
+  together : AreTogether (λ at. IsSameService) old.services other.services
+  together = record {
+    long = sym (AllZip-long IsSameService old.services other.services same.services);
+    each = λ at s t there here. zip_at IsSameService old.services other.services at s t
+        same.services there here;
+  }
 
   named_same : (number : Option ℕ) (at bt : ℕ) (s t : Service) → IsNamed number old.services at s
       → IsNamed number other.services bt t → (at ≡ bt) × IsSameService s t
   named_same number at bt s t n m =
-      let u = named_too number at s n in (
+      let u =
+      named_too (λ at. IsSameService) old.services other.services together same_line number at s n
+      in (
         one_index number other.services at bt u.0 t u.1 m,
         subst (IsSameService s) (one_named number other.services at bt u.0 t u.1 m) u.2,
       )
-
-  none_too : old.waits ≡ None → other.waits ≡ None
-  none_too e = no_wait old.waits other.waits same.waits e
 
   set_same : (at bt : ℕ) (s t : Service) → at ≡ bt → IsSameService s t
       → AllZip IsSameService (slice_set old.services at s) (slice_set other.services bt t)
@@ -162,10 +115,6 @@ module _ (old other : Log) (same : IsSameLog old other) where
       one_sets old.callers new.callers next.callers name a p
       (subst (λ x. Sets old.callers name x next.callers) (sym e)
       (subst (λ x. Sets x name b next.callers) same.callers q))
-
-  sets_too : (name : List ℕ) (a : CallerState) {new : List ℕ → Option CallerState}
-      → Sets old.callers name a new → Sets other.callers name a new
-  sets_too name a {new} p = subst (λ x. Sets x name a new) (sym same.callers) p
 
   -- lines that do the same lead to the same
   module _ (k : ℕ) (new next : Log) where
@@ -241,7 +190,7 @@ module _ (old other : Log) (same : IsSameLog old other) where
         let at : g.0 ≡ h.0 = ap (λ (p : ℕ × NamedCommand). p.0) is in
         let c : IsSameCommand g.1 h.1 =
         subst (IsSameCommand g.1) (ap (λ (p : ℕ × NamedCommand). p.1) is) w.2 in
-        let s = get_same g.0 h.0 g.2 h.2 at g.5 h.5 in
+        let s = together.each g.0 g.2 h.2 g.5 (rw (← at) at h.5) in
         rw (g.7, h.7) (record {
           services = set_same g.0 h.0 _ _ at
               (same_alone g.2 h.2 s (called g.2 g.1) (called h.2 h.1) g.3 h.3 k
@@ -255,7 +204,7 @@ module _ (old other : Log) (same : IsSameLog old other) where
         sym g.5 ∙ (ap (λ (f : List ℕ → Option CallerState). f name) (sym same.callers) ∙ h.5) in
         let at : g.0 ≡ h.0 = cc in
         let number : g.1 ≡ h.1 = cc in
-        let s = get_same g.0 h.0 g.2 h.2 at g.6 h.6 in
+        let s = together.each g.0 g.2 h.2 g.6 (rw (← at) at h.6) in
         record {
           services = rw (g.8, h.8, ← number) (set_same g.0 h.0 _ _ at
               (same_end g.2 h.2 s g.1 g.3 h.3 k (same_says words g.3 h.3 g.7 h.7)));
@@ -278,144 +227,37 @@ module _ (old other : Log) (same : IsSameLog old other) where
     step_same l m (other_call number c d q) = call_same number c d q
     step_same l m (other_begin number name b d q) = begin_same number name b d q
 
-  -- where one goes on by a line, the other does
-  module _ (k : ℕ) (new : Log) where
-    call_too : (number : Option ℕ) (c d : NamedCommand) → GoesOn old k (call number c) new
-        → (next : Log) × GoesOn other k (call number d) next
-    call_too number c d g =
-        let t = named_too number g.0 g.1 g.3 in (
-          record other { waits = Some (g.0, d) },
-          (g.0, t.0, none_too g.2, t.1, refl),
-        )
+-- what is the same still is, whatever is added to both
+keeps_same : Keeps (λ at. IsSameService) IsSameCommand
+keeps_same = record {
+  line = same_line;
+  none = λ at s t p. same_some s t p;
+  own = own_command;
+  begins = λ at s t b k u n p is.
+      let v = begins_too s t p k b u n is in
+      (v.0, v.1, (same_begins s t p k b b (own_begun b) u v.0 n n is v.1).0);
+  alone = λ at s t c d r k p orderly q.
+      same_alone s t p (called s c) (called t d) r r k (same_called s t p c d q) (own_reply r);
+  ends = λ at s t n r k p live. same_end s t p n r r k (own_reply r);
+  crash = λ at s t n k p. same_crash s t p n k;
+  starts = λ at s t what start p is. (
+    (
+      same_none s t p is.0,
+      subst (λ x. Gives x what start) (sym (same_service_start s t p)) is.1,
+    ),
+    same_started s t p start,
+  );
+}
 
-    begin_too : (number : Option ℕ) (name : List ℕ) (b d : Begun) → IsSameBegun b d
-        → GoesOn old k (begin number name b) new
-        → (next : Log) × GoesOn other k (begin number name d) next
-    begin_too number name b d q g =
-        let t = named_too number g.0 g.1 g.3 in
-        let u = begins_too g.1 t.0 t.2 k b d q g.5.0 g.5.1 g.5.2 in (
-          record {
-            services = slice_set other.services g.0 u.0;
-            callers = new.callers;
-            waits = None;
-          },
-          (
-            g.0,
-            t.0,
-            none_too g.2,
-            t.1,
-            subst (λ (f : List ℕ → Option CallerState). MayBegin (f name)) (sym same.callers) g.4,
-            (u.0, g.5.1, u.1, refl, sets_too name (caller.Calls g.0 g.5.1) g.5.4, refl),
-          ),
-        )
-
-    given_too : (number : Option ℕ) (what : State) → GoesOn old k (given number what) new
-        → (next : Log) × GoesOn other k (given number what) next
-    given_too number what g =
-        let t = named_too number g.0 g.1 g.4 in
-        elim g.5 as (λ _. (next : Log) × GoesOn other k (given number what) next) [
-          | inl a ↦ (
-            record other { services = slice_set other.services g.0 (started t.0 g.2) },
-            (
-              g.0,
-              t.0,
-              g.2,
-              none_too g.3,
-              t.1,
-              inl (
-                (
-                  same_none g.1 t.0 t.2 a.0.0,
-                  subst (λ x. Gives x what g.2) (sym (same_service_start g.1 t.0 t.2)) a.0.1,
-                ),
-                refl,
-              ),
-            ),
-          )
-          | inr a ↦ (
-            record other {
-              services = other.services ++ started (unseen t.0.line) g.2 ∷ [];
-            },
-            (
-              g.0,
-              t.0,
-              g.2,
-              none_too g.3,
-              t.1,
-              inr (
-                (
-                  λ none. a.0.0 (same_some g.1 t.0 t.2 none),
-                  subst (λ (f : List ℕ → Option CallerState). NoneCalls f g.0) (sym same.callers)
-                      a.0.1,
-                  subst (λ x. Gives (unseen x).start what g.2)
-                      (sym (ap (λ (x : Service). x.line) t.2.others)) a.0.2,
-                ),
-                refl,
-              ),
-            ),
-          )
-        ]
-
-    own_too : (l : Line) → GoesOn old k l new → (next : Log) × GoesOn other k l next
-    own_too (service line) g = (
-      record other { services = other.services ++ unseen line ∷ [] },
-      (
-        none_too g.0,
-        all_of (λ (x : Service). x.line.number ≢ line.number) other.services (λ i y e is.
-            let x = number_back i y e in
-            all_get (λ (z : Service). z.line.number ≢ line.number) old.services i x.0 g.1 x.1
-            (sym x.2 ∙ is)),
-        refl,
-      ),
-    )
-    own_too (call number c) g = call_too number c c g
-    own_too (reply words) g =
-        let w = a_wait old.waits other.waits same.waits g.0 g.1 g.4 in
-        let t = get_too g.0 g.2 g.5 in (
-          record other {
-            services = slice_set other.services g.0 (with_alone t.0 (called t.0 w.0) g.3 k);
-            waits = None;
-          },
-          (g.0, w.0, t.0, g.3, w.1, t.1, g.6, refl),
-        )
-    own_too (begin number name b) g = begin_too number name b b (own_begun b) g
-    own_too (end name words) g =
-        let t = get_too g.0 g.2 g.6 in (
-          record {
-            services = slice_set other.services g.0 (with_end t.0 g.1 g.3 k);
-            callers = new.callers;
-            waits = None;
-          },
-          (
-            g.0,
-            g.1,
-            t.0,
-            g.3,
-            none_too g.4,
-            ap (λ (f : List ℕ → Option CallerState). f name) same.callers ∙ g.5,
-            t.1,
-            g.7,
-            refl,
-            sets_too name caller.Idle g.9,
-            refl,
-          ),
-        )
-    own_too (crash name) g =
-        let ts =
-        crash_too old.services other.services k (old.callers name) new.services same.services
-        g.1 in (
-          record { services = ts.0; callers = new.callers; waits = None },
-          (
-            none_too g.0,
-            subst (λ (f : List ℕ → Option CallerState). Crashes other.services k (f name) ts.0)
-                (sym same.callers) ts.1,
-            sets_too name caller.Dead g.2,
-            refl,
-          ),
-        )
-    own_too (given number what) g = given_too number what g
-
-    pub step_too : (l m : Line) → IsSameLine l m → GoesOn old k l new
-        → (next : Log) × GoesOn other k m next
-    step_too l m (own_line x) = own_too x
-    step_too l m (other_call number c d q) = call_too number c d
-    step_too l m (other_begin number name b d q) = begin_too number name b d q
+-- where one goes on by a line, the other does
+pub step_too : (old other : Log) → IsSameLog old other → IsKept other → (k : ℕ) (new : Log)
+    (l : Line) → GoesOn old k l new → (next : Log) × GoesOn other k l next
+step_too old other same kept k new l g =
+    let goes =
+    goes_too (λ at. IsSameService) IsSameCommand keeps_same old other k (record {
+      services = together old other same;
+      callers = same.callers;
+      none = no_wait old.waits other.waits same.waits;
+      waits = a_wait old.waits other.waits same.waits;
+    }) kept (λ line start. own_service (started (unseen line) start)) new l g in
+    (goes.0, goes.1)

@@ -1,16 +1,16 @@
 -- What is kept of a service after one line more.
-use Rattle.history_logs.proofs.Words.{Begin, Begins, Begun, End, Event, Front, Gives, HasEnded, HasFront, IsShort, Judged, List, NamedCommand, None, Option, Part, SeenReply, Service, ServiceLine, Some, StartsAs, State, Watched, [], ap, append_assoc, arith, begun, begun_none, called, calls_answered, calls_shown, cases_eq, cases_lt, changed, inl, inr, judged_answered, length, length-append, nil_from_length, numbered, option_map, refl, same_Some, shown, slice_get, start_of, started, starting, stopped, stopping, subst, suc, sym, take, unseen, weak, with_begin, with_end, with_look, with_over, with_part, zero, ℕ, ◌++◌, ◌+◌, ◌∙◌, ◌∷◌, ◌≡◌, ◌≢◌, ◌≤◌, ◌⊎◌}
+use Rattle.history_logs.proofs.Words.{Begin, Begins, Begun, End, Event, Front, Gives, HasEnded, HasFront, IsOrderly, IsShort, Judged, List, NamedCommand, None, Option, Part, SeenReply, Service, ServiceLine, Some, StartsAs, State, Watched, [], ap, append_assoc, arith, begun, begun_none, called, calls_answered, calls_shown, cases_eq, cases_lt, changed, inl, inr, judged_answered, length, length-append, nil_from_length, numbered, option_map, refl, same_Some, shown, slice_get, start_of, started, starting, stopped, stopping, subst, suc, sym, take, unseen, weak, with_alone, with_begin, with_end, with_look, with_over, with_part, zero, ℕ, ◌++◌, ◌+◌, ◌∙◌, ◌∷◌, ◌≡◌, ◌≢◌, ◌≤◌, ◌⊎◌}
 use Rattle.std.proofs.lemmas.List.{take-append-le}
 use Rattle.histories.proofs.Events.{ended_still}
 use Rattle.service_conformance.specs.Judged.Judged.{call}
 use Rattle.service_descriptions.specs.declared.replay.machine.command.Command.{Command}
 use Rattle.service_descriptions.specs.declared.replay.machine.command.Command.TheVariants as command
 use Rattle.history_logs.specs.Seen.{IsKeptCall, handle_named}
-use Rattle.history_logs.specs.Shortened.{shortened}
+use Rattle.history_logs.specs.Settling.{shortened}
 use Rattle.iox2_dynamic.specs.Service as dynamic
 use Rattle.log_lines.specs.Commands.Begun.{command as begun_command}
 use Rattle.service_conformance.specs.Sides.{HasPart, LacksPart}
-use Rattle.history_logs.proofs.Orderly.{both, length_answered}
+use Rattle.history_logs.proofs.Orderly.{both, length_answered, open_new}
 use Rattle.history_logs.proofs.Answering.{called_stops}
 
 -- lists with one more at the end
@@ -314,6 +314,18 @@ module _ (s live : Service) (front : Option (Front Watched)) (h : IsShort s live
   short_call c line t is =
       rw (is, same_call c) (short_begin s live front h (called s c) line (called_stops s c))
 
+  pub short_alone : (c : NamedCommand) (r : SeenReply) (line : ℕ) → IsOrderly s
+      → IsShort (with_alone s (called s c) r line) (with_alone live (called live c) r line) front
+  short_alone c r line orderly =
+      let d = called s c in
+      let one = with_begin s d line in
+      let other = with_begin live d line in
+      subst (λ (x : Judged). IsShort (with_alone s d r line) (with_alone live x r line) front)
+      (sym (same_call c))
+      (subst (λ n. IsShort (with_alone s d r line) (with_end other n r line) front) (sym h.count)
+      (short_end one other front (short_begin s live front h d line (called_stops s c))
+      (length s.calls) (open_new s d line orderly).1 r line))
+
   pub short_begins : (b : Begun) (line : ℕ) (t : Service) (current : ℕ)
       → Begins live b line t current
       → (new : Service) × Begins s b line new current × IsShort new t front
@@ -384,6 +396,3 @@ short_new line start = record {
   first = omega arith;
   has = refl;
 }
-
-pub short_unseen : (line : ServiceLine) → IsShort (unseen line) (unseen line) None
-short_unseen line = short_new line (unseen line).start

@@ -1,5 +1,5 @@
 -- What is explained of a service after one line more was explained before it.
-use Rattle.history_logs.proofs.Words.{All, All-push, All-set, Begin, Begins, Begun, CallerState, Crash, Crashes, End, Event, GoesOn, HasEnded, IsExplained, IsKept, IsOpen, IsOrderly, IsSeenRightly, Judged, Line, List, Log, NamedCommand, None, Option, Part, SeenReply, Service, Some, StepOf, Watched, [], ap, arith, begin, begins, call, called, calls_answered, calls_shown, cases_eq, command, crash, end, get_set_other, given, inl, inr, judged_answered, length, length-append, length_push, news, numbered, option_and_then, option_map, refl, reply, same_Some, service, shown, slice_get, slice_get_within, slice_set, start_of, started, starting, starts, stopped, stopping, stops, subst, sym, take, take-append_seam, take_all, unseen, weak, with_alone, with_begin, with_crash, with_end, with_look, with_over, with_part, ℕ, ◌++◌, ◌+◌, ◌<◌, ◌∙◌, ◌∷◌, ◌≡◌}
+use Rattle.history_logs.proofs.Words.{All, All-push, All-set, Begin, Begins, Begun, Crash, End, Event, GoesOn, HasEnded, IsExplained, IsKept, IsOpen, IsOrderly, IsSeenRightly, Judged, Line, List, Log, NamedCommand, None, Option, Part, SeenReply, Service, Some, StepOf, Watched, [], ap, arith, begins, called, calls_answered, calls_shown, cases_eq, command, get_set_other, inl, inr, judged_answered, length, length-append, length_push, news, numbered, option_and_then, option_map, refl, same_Some, shown, slice_get, slice_get_within, slice_set, start_of, started, starting, starts, stopped, stopping, stops, subst, sym, take, take-append_seam, take_all, unseen, weak, with_alone, with_begin, with_end, with_look, with_over, with_part, ℕ, ◌++◌, ◌+◌, ◌<◌, ◌∙◌, ◌∷◌, ◌≡◌}
 use Rattle.std.specs.Prelude.{Bool, true}
 use Rattle.histories.proofs.Events.{ended_now, ended_still}
 use Rattle.histories.proofs.Passing.{explained_seen}
@@ -12,9 +12,10 @@ use Rattle.service_conformance.specs.Judged.Judged.{call as judged_call}
 use Rattle.service_conformance.specs.Looks.{unwatched}
 use Rattle.service_conformance.specs.Seen.{seen_text}
 use Rattle.service_descriptions.specs.declared.replay.machine.command.Command.TheVariants as machine
-use Rattle.history_logs.specs.declared.logs.callers.CallerState.TheVariants as caller
 use Rattle.history_logs.proofs.AtIndex.{all_get, all_of, get_left, get_push, get_push_at, get_same, get_within}
-use Rattle.history_logs.proofs.Kept.{open_at}
+use Rattle.history_logs.proofs.Kept.{Changes, Moves, moves_step}
+use Rattle.history_logs.proofs.Kept.Changes.{call_alone, call_begins, call_ends, caller_dies, is_given}
+use Rattle.history_logs.proofs.Kept.Moves.{none_changes, one_added, one_changes}
 use Rattle.history_logs.proofs.Orderly.{length_answered, open_new, orderly_begin, orderly_crash, orderly_end, orderly_over, orderly_part}
 use Rattle.history_logs.proofs.Shortened.{get_changed, get_unchanged}
 
@@ -340,55 +341,29 @@ next_push ss ts t all none is = rw is (record {
       absurd (cc));
 })
 
-next_crashes : (old new : Log) (k : ℕ) (name : List ℕ) (state : Option CallerState) → IsKept old
-    → All Awaits old.services → old.callers name ≡ state
-    → Crashes old.services k state new.services → AreNext old.services new.services
-next_crashes old new k name (Some caller.Idle) kept all is crashes =
-    next_stays old.services new.services all crashes
-next_crashes old new k name (Some (caller.Calls at number)) kept all is crashes =
-    let s = crashes.0 in
-    let live = open_at old.services at number s crashes.1 (kept.opened name at number is) in
-    let orderly = all_get IsOrderly old.services at s kept.orderly crashes.1 in
-    next_set old.services new.services at s (with_crash s number k) all crashes.1
-    (next_event s (Crash number) k (all_get Awaits old.services at s all crashes.1)
-    (orderly_crash s number k orderly live)) crashes.2
-next_crashes old new k name _ kept all is crashes = absurd crashes
+next_change : (old : Log) (k : ℕ) (s : Service) (l : Line) (t : Service) → IsKept old
+    → IsOrderly s → Awaits s → Changes old k s l t → IsNext s t
+next_change old k s l t kept o awaits (call_begins number name b u current is) =
+    next_begun s u b k current o awaits is
+next_change old k s l t kept o awaits (call_alone c words r some says) = next_alone s c r k o awaits
+next_change old k s l t kept o awaits (call_ends number name words r live says) =
+    next_open s number r k o awaits (live kept)
+next_change old k s l t kept o awaits (caller_dies number name live) =
+    next_event s (Crash number) k awaits (orderly_crash s number k o (live kept))
+next_change old k s l t kept o awaits (is_given number what start none) =
+    next_started s start o awaits none
+
+next_moves : (old : Log) (k : ℕ) (l : Line) (new : List Service) → IsKept old
+    → All Awaits old.services → Moves old k l new → AreNext old.services new
+next_moves old k l new kept all none_changes = next_stays old.services new all refl
+next_moves old k l new kept all (one_changes at s t there changes) =
+    next_set old.services new at s t all there
+    (next_change old k s l t kept (all_get IsOrderly old.services at s kept.orderly there)
+    (all_get Awaits old.services at s all there) changes) refl
+next_moves old k l new kept all (one_added line start) =
+    next_push old.services new (started (unseen line) start) all refl refl
 
 pub next_step : (old new : Log) (k : ℕ) (l : Line) → IsKept old → All Awaits old.services
     → GoesOn old k l new → AreNext old.services new.services
-next_step old new k (service line) kept all g =
-    next_push old.services new.services (unseen line) all refl (ap (λ (x : Log). x.services) g.2)
-next_step old new k (call number c) kept all g =
-    next_stays old.services new.services all (ap (λ (x : Log). x.services) g.4)
-next_step old new k (reply words) kept all g =
-    let s = g.2 in
-    next_set old.services new.services g.0 s _ all g.5
-    (next_alone s g.1 g.3 k (all_get IsOrderly old.services g.0 s kept.orderly g.5)
-    (all_get Awaits old.services g.0 s all g.5)) (ap (λ (x : Log). x.services) g.7)
-next_step old new k (begin number name begun) kept all g =
-    let s = g.1 in
-    let there = g.3.there in
-    next_set old.services new.services g.0 s g.5.0 all there
-    (next_begun s g.5.0 begun k g.5.1 (all_get IsOrderly old.services g.0 s kept.orderly there)
-    (all_get Awaits old.services g.0 s all there) g.5.2) g.5.3
-next_step old new k (end name words) kept all g =
-    let s = g.2 in
-    let live = open_at old.services g.0 g.1 s g.6 (kept.opened name g.0 g.1 g.5) in
-    next_set old.services new.services g.0 s _ all g.6
-    (next_open s g.1 g.3 k (all_get IsOrderly old.services g.0 s kept.orderly g.6)
-    (all_get Awaits old.services g.0 s all g.6) live) g.8
-next_step old new k (crash name) kept all g =
-    next_crashes old new k name (old.callers name) kept all refl g.1
-next_step old new k (given number what) kept all g =
-    let s = g.1 in
-    let there = g.4.there in
-    elim g.5 [
-      | inl first ↦
-          next_set old.services new.services g.0 s (started s g.2) all there
-          (next_started s g.2 (all_get IsOrderly old.services g.0 s kept.orderly there)
-          (all_get Awaits old.services g.0 s all there) first.0.0)
-          (ap (λ (x : Log). x.services) first.1)
-      | inr anew ↦
-          next_push old.services new.services (started (unseen s.line) g.2) all refl
-          (ap (λ (x : Log). x.services) anew.1)
-    ]
+next_step old new k l kept all g =
+    next_moves old k l new.services kept all (moves_step old new k l g)

@@ -6,7 +6,7 @@ use Rattle.std.specs.Prelude.{◌≡◌, ◌==◌, ℕ, suc, List, [], ◌∷◌
 use Rattle.log_lines.specs.declared.command.LogCommand.{LogCommand}
 use Rattle.log_lines.specs.Commands.{NamedCommand, named}
 use Rattle.history_logs.specs.declared.logs.reading.Reading.{Reading}
-use Rattle.history_logs.specs.CallerFields.{callers_of}
+use Rattle.history_logs.specs.Parts.{callers_of}
 use Rattle.history_logs.specs.Reading.{IsSane, Log}
 use Rattle.history_logs.specs.Seen.{Service}
 

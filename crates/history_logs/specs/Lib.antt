@@ -11,9 +11,7 @@ pub mod Reports
 pub mod Orders
 pub mod Progress
 -- Inner facts: what the fields of what is read tell.
-pub mod ServiceFields
-pub mod CallerFields
+pub mod Parts
 pub mod Fields
 pub mod Judging
-pub mod Shortened
 pub mod Settling

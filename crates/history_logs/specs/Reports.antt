@@ -93,13 +93,16 @@ window_text window needed =
     ((10 ∷ codes "window: from line ") ++ decimal window)
     ++ ((10 ∷ codes "needed: lines") ++ flat_map number_word needed)
 
+-- which reply no order explains, of what is seen down to a line: that in it, or one above it
+abbrev pub which_text : ℕ → ℕ → List ℕ
+which_text line reply =
+    if reply == line
+    then codes ": no order of the calls explains this reply"
+    else codes ": with this reply no order of the calls explains that in line " ++ decimal reply
+
 -- no order explains what is seen down to a line: the reply in it, or one above it
 unfoldable pub refused_text : ℕ → ℕ → List ℕ
-refused_text line reply =
-    (codes "line " ++ decimal line)
-    ++ (if reply == line
-    then codes ": no order of the calls explains this reply"
-    else codes ": with this reply no order of the calls explains that in line " ++ decimal reply)
+refused_text line reply = (codes "line " ++ decimal line) ++ which_text line reply
 
 -- the lines of a reply that no order explains, of its call, of the calls that are needed, and of
 -- what the calls before it can have led to

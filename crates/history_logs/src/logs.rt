@@ -31,7 +31,7 @@ pub use log_lines::LogForm;
 use ordering::judge_services;
 pub use progress::{Counts, NoProgress, Progress};
 use reading::{Reading, read_log};
-use report::{append_orders, append_report};
+use report::{append_each, append_report};
 use service::LogService;
 use std::alloc::{AllocError, Global};
 pub use streams::{Report, check_streams};
@@ -194,7 +194,7 @@ fn witness_read(
     let (verdict, orders) = judge(alloc, log, reading, bad, Cut::Never)?;
     let mut text = Vec::new(alloc);
     append_report(&verdict, &mut text)?;
-    append_orders(&orders, &mut text)?;
+    append_each(&orders, &mut text)?;
     Ok((verdict, text))
 }
 

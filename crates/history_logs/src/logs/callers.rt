@@ -1,7 +1,7 @@
 //! The callers of a log.
 ghost use Rattle.std.specs.BTreeMap.{IsUnchanged};
 ghost use Rattle.std.specs.Prelude.{◌≡◌, ◌<◌, ℕ, List, None, Some, IfNone, IfOk, IfSome, IsFalse, IsTrue, OnErr, OnOk, get_or, length};
-ghost use Rattle.history_logs.specs.CallerFields.{Puts, callers_of, on_by};
+ghost use Rattle.history_logs.specs.Parts.{Puts, callers_of, on_by};
 ghost use Rattle.history_logs.specs.Reading.{MayBegin, NoneCalls, RefusesBegin, Sets};
 
 use super::verdict::Expected;
@@ -33,7 +33,7 @@ impl Model for Callers {
     ghost use Rattle.std.specs.Global.{Vec};
     ghost use Rattle.std.specs.Prelude.{ℕ, List};
     ghost use Rattle.history_logs.specs.declared.logs.callers.CallerState.{CallerState};
-    ghost use Rattle.history_logs.specs.CallerFields.{AreOpen};
+    ghost use Rattle.history_logs.specs.Parts.{AreOpen};
 
     ghost Value = { List (Vec ℕ × CallerState) };
 

@@ -5,26 +5,19 @@ ghost use Rattle.history_logs.specs.Logs.{IsFirstRefused, Judged, RefusesIn, Ref
 ghost use Rattle.history_logs.specs.Logs.{first_lines};
 ghost use Rattle.history_logs.specs.Orders.{HasOrders};
 
+use super::judging::after_lines;
 use super::ordering::judge_services;
 use super::progress::NoProgress;
 use super::reading::read_log;
 use super::verdict::{Refusal, Verdict};
 use histories::Cut;
-use line_streams::before_byte;
 use std::alloc::{AllocError, Global};
 
 /// The first lines of a log, so many, or all, if it has fewer.
 fn first_lines(log: &[u8], count: usize) -> &[u8]
     ensures { result.now ≡ first_lines count log.now }
 {
-    let mut rest = log;
-    for _ in 0..count {
-        let Some((_, after)) = before_byte(rest, b'\n') else {
-            return log;
-        };
-        rest = after;
-    }
-    &log[..log.len() - rest.len()]
+    &log[..log.len() - after_lines(log, count).len()]
 }
 
 /// The reply that is refused, if one is.

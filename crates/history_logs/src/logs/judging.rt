@@ -1,5 +1,5 @@
 //! Judging what was seen of a service.
-ghost use Rattle.std.specs.Prelude.{◌≡◌, ◌+◌, ◌<◌, ◌≤◌, ◌↔◌, ℕ, zero, suc, IfOk, IsTrue, List, OnOk};
+ghost use Rattle.std.specs.Prelude.{◌≡◌, ◌+◌, ◌<◌, ◌++◌, ◌≤◌, ◌↔◌, ℕ, IfOk, IsTrue, List, OnOk};
 ghost use Rattle.std.specs.Prelude.{Some, length, slice_get, take};
 ghost use Rattle.std.specs.Int.{bit_at};
 ghost use Rattle.std.specs.List.{AllZip};
@@ -13,7 +13,7 @@ ghost use Rattle.history_logs.specs.Good.{IsOrderly};
 ghost use Rattle.history_logs.specs.Judging.{AreBelow, AreLines, AreLinesTo, Explores};
 ghost use Rattle.history_logs.specs.Judging.{IsRefusedIn, IsReportOf};
 ghost use Rattle.history_logs.specs.Judging.{comes_before, earlier, is_refused};
-ghost use Rattle.history_logs.specs.Logs.{IsReported, StepOf, news};
+ghost use Rattle.history_logs.specs.Logs.{IsReported, StepOf, first_lines, news};
 ghost use Rattle.history_logs.specs.EventLines.{Answers, HasEventLines, IsCommandOf, IsLineAt, IsNoteOrReply};
 
 use super::needed::{first_states, lines_needed};
@@ -121,15 +121,14 @@ fn configurations(
     Ok(reported)
 }
 
-/// What follows so many lines.
-fn after_lines(log: &[u8], count: usize) -> &[u8]
-    ensures { (line : List ℕ) → IsLineAt log.now (suc count) line
-        → IsLineAt result.now (suc zero) line }
+/// What follows so many lines; nothing, if there are fewer.
+pub(super) fn after_lines(log: &[u8], count: usize) -> &[u8]
+    ensures { log.now ≡ first_lines count log.now ++ result.now }
 {
     let mut rest = log;
     for _ in 0..count {
         let Some((_, after)) = before_byte(rest, b'\n') else {
-            return rest;
+            return &[];
         };
         rest = after;
     }

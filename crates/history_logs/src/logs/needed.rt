@@ -52,24 +52,6 @@ fn idle_calls(alloc: Global, calls: &[JudgedCall], refused: usize) -> Result<Vec
     Ok(idle)
 }
 
-/// Adds the line in which the call begins, if it is not left out.
-fn add_kept(
-    begins: &[usize],
-    left_out: &[bool],
-    call: usize,
-    lines: &mut Vec<usize>,
-) -> Result<(), AllocError>
-    requires { call < length begins.now }
-    ensures { OnOk result (lines.new.items ≡ lines.old.items ++ flat_map (line_begun begins.now)
-        (events_of (is_kept left_out.now) (Begin call ∷ []))) }
-{
-    if !is_kept(left_out, call) {
-        return Ok(());
-    }
-    lines.push(begins[call])?;
-    Ok(())
-}
-
 /// Adds the line in which the call of the event begins, if it begins with it and is not left out.
 fn add_begun(
     begins: &[usize],
@@ -82,9 +64,14 @@ fn add_begun(
         (events_of (is_kept left_out.now) (event ∷ []))) }
 {
     match event {
-        Event::Begin(call) => add_kept(begins, left_out, call, lines),
-        Event::End(_) => Ok(()),
-        Event::Crash(_) => Ok(()),
+        Event::Begin(call) => {
+            if !is_kept(left_out, call) {
+                return Ok(());
+            }
+            lines.push(begins[call])?;
+            Ok(())
+        }
+        Event::End(_) | Event::Crash(_) => Ok(()),
     }
 }
 

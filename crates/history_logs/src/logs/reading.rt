@@ -6,7 +6,7 @@ ghost use Rattle.log_lines.specs.Lines.Line.{service as service_line, call as ca
 ghost use Rattle.log_lines.specs.Lines.Line.{begin as begin_line, end as end_line, crash as crash_line};
 ghost use Rattle.log_lines.specs.Lines.Line.{given as given_line};
 ghost use Rattle.log_lines.specs.States.{state_seen};
-ghost use Rattle.history_logs.specs.CallerFields.{callers_of};
+ghost use Rattle.history_logs.specs.Parts.{callers_of};
 ghost use Rattle.history_logs.specs.Fields.{AreNumbers, IsReady, log_of};
 ghost use Rattle.log_lines.specs.Lines.{IsLine, Line, line_seen, line_text};
 ghost use Rattle.history_logs.specs.Good.{GivesAnew, IsReadTo, SaysIn, Takes, TakesLine};

@@ -6,7 +6,7 @@ ghost use Rattle.history_logs.specs.Reports.{conforms_text, expected_text, for_c
 ghost use Rattle.history_logs.specs.Reports.{before_next, free_text, lists_text, range_text};
 ghost use Rattle.history_logs.specs.Reports.{line_of, made_text, next_text, number_word, order_text};
 ghost use Rattle.history_logs.specs.Reports.{possible_text, refusal_text, refused_text, report_text};
-ghost use Rattle.history_logs.specs.Reports.{window_text};
+ghost use Rattle.history_logs.specs.Reports.{which_text, window_text};
 ghost use Rattle.service_descriptions.specs.Replies.{id_word, port_word, text_of};
 
 use super::verdict::{Configuration, Expected, Order, Refusal, Verdict};
@@ -36,7 +36,7 @@ fn append_id(id: u128, out: &mut Vec<u8>) -> Result<(), AllocError>
 }
 
 /// What is reported as a text of its own, of which several may stand one after another.
-trait Reported {
+pub(super) trait Reported {
     /// The text.
     ghost text: { Self → List ℕ };
 
@@ -79,7 +79,7 @@ impl Reported for usize {
 }
 
 /// Appends the text of each.
-fn append_each<T: Reported>(items: &[T], out: &mut Vec<u8>) -> Result<(), AllocError>
+pub(super) fn append_each<T: Reported>(items: &[T], out: &mut Vec<u8>) -> Result<(), AllocError>
     ensures { OnOk result (out.new.items ≡ out.old.items ++ flat_map T.text items.now) }
 {
     for item in items {
@@ -223,6 +223,7 @@ impl Reported for Configuration {
 }
 
 /// Appends the line of the command of a call.
+#[tactic(auto, unfolding(crate::specs::Reports::call_text))]
 fn append_call(line: usize, command: &[u8], out: &mut Vec<u8>) -> Result<(), AllocError>
     ensures { OnOk result (out.new.items ≡ out.old.items ++ call_text line command.now) }
 {
@@ -243,21 +244,29 @@ fn append_window(window: usize, needed: &[usize], out: &mut Vec<u8>) -> Result<(
     Ok(())
 }
 
-/// Appends that no order explains what is seen down to a line, and the line of the reply if that is
-/// another one.
-fn append_refused(line: usize, reply: usize, out: &mut Vec<u8>) -> Result<(), AllocError>
-    ensures { OnOk result (out.new.items ≡ out.old.items ++ refused_text line reply) }
+/// Appends which reply no order explains: that in the line, or one above it.
+fn append_which(line: usize, reply: usize, out: &mut Vec<u8>) -> Result<(), AllocError>
+    ensures { OnOk result (out.new.items ≡ out.old.items ++ which_text line reply) }
 {
-    append_number(b"line ", line as u64, out)?;
     if reply == line {
-        out.extend_from_slice(b": no order of the calls explains this reply")?;
-        return Ok(());
+        return out.extend_from_slice(b": no order of the calls explains this reply");
     }
     append_number(
         b": with this reply no order of the calls explains that in line ",
         reply as u64,
         out,
     )
+}
+
+/// Appends that no order explains what is seen down to a line, and the line of the reply if that is
+/// another one.
+#[tactic(auto, unfolding(crate::specs::Reports::refused_text))]
+fn append_refused(line: usize, reply: usize, out: &mut Vec<u8>) -> Result<(), AllocError>
+    ensures { OnOk result (out.new.items ≡ out.old.items ++ refused_text line reply) }
+{
+    append_number(b"line ", line as u64, out)?;
+    append_which(line, reply, out)?;
+    Ok(())
 }
 
 /// Appends the report on a reply that no order explains.
@@ -412,11 +421,4 @@ impl Reported for Order {
         append_lines(&self.lines, out)?;
         Ok(())
     }
-}
-
-/// Appends the orders of the calls on services.
-pub(super) fn append_orders(orders: &[Order], out: &mut Vec<u8>) -> Result<(), AllocError>
-    ensures { OnOk result (out.new.items ≡ out.old.items ++ flat_map order_text orders.now) }
-{
-    append_each(orders, out)
 }

@@ -41,7 +41,7 @@ pub(super) struct LogService {
 }
 
 impl Model for LogService {
-    ghost use Rattle.history_logs.specs.ServiceFields.{service_of};
+    ghost use Rattle.history_logs.specs.Parts.{service_of};
     ghost use Rattle.history_logs.specs.Seen.{Service};
 
     ghost Value = { Service };

@@ -8,7 +8,7 @@ returns-clause-text c =
     let reported = flat_map order_text c.deref.result.now in (
       orders,
       c.in_ok-verdict.ensures.orders refl,
-      c.in_ok-append_orders.ensures
+      c.in_ok-append_each.ensures
           ∙ (ap (λ (l : List ℕ). l ++ reported)
           (c.in_ok-append_report.ensures
           ∙ ap (λ (l : List ℕ). l ++ report) c.new-text.ensures.items)

@@ -1,5 +1,5 @@
 use Rattle.std.proofs.Common.{None, rules, ◌≡◌}
-use Rattle.history_logs.specs.CallerFields.{callers_of}
+use Rattle.history_logs.specs.Parts.{callers_of}
 use Rattle.history_logs.proofs.Callers.{puts_known, puts_new}
 use Rattle.history_logs.proofs.logs.callers.put.Goals as goal
 

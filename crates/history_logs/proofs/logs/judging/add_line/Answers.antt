@@ -1,5 +1,5 @@
 use Rattle.history_logs.proofs.Words.{AreLinesTo, get_or, slice_get-get_or, subst, sym, ◌+◌}
-use Rattle.history_logs.proofs.Telling.{lines_more, not_waiting}
+use Rattle.history_logs.proofs.Refusing.{lines_more, not_waiting}
 use Rattle.history_logs.proofs.logs.judging.add_line.Goals as goal
 
 pub returns : goal.returns

@@ -1,7 +1,13 @@
-use Rattle.history_logs.proofs.Words.{ap, subst, sym, ◌+◌}
-use Rattle.history_logs.proofs.LinesAt.{IsFoundIn, note_or_reply_next, command_next, found_end, found_last, is_command, left_more}
+use Rattle.history_logs.proofs.Words.{ap, arith, subst, sym, ◌+◌, ◌≡◌}
+use Rattle.history_logs.proofs.FirstLines.{before_more, before_none, IsFoundIn, note_or_reply_next, command_next, found_end, found_last, is_command}
 use Rattle.history_logs.proofs.logs.judging.command_of.Goals.{else-not-is_note_or_reply, then-not-is_note_or_reply}
 use Rattle.history_logs.proofs.logs.judging.command_of.Goals as goal
+
+pub loop-above-init : goal.loop-above-init
+loop-above-init c = (
+  before_none c.args.log.now,
+  λ at text is. let none : at ≡ 0 = omega (arith, is.upto) in absurd (rw none at is.there),
+)
 
 pub returns-in_default : goal.returns-in_default
 returns-in_default c =
@@ -17,7 +23,7 @@ loop-above-preserved c =
     let after = c.in-Some.after.now in
     let read = c.in-Some.ensures.read in
     let left = c.loop-above.invariant.0 in (
-      λ count. left_more log count i rest text after read.0 read.1 (left count),
+      before_more log i rest text after read.0 read.1 left,
       elim c.if-not-is_note_or_reply.branch [
         | then-not-is_note_or_reply w ↦
             command_next log i rest text after read.0 read.1 left c.if-not-is_note_or_reply.command

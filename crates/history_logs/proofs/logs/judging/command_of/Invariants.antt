@@ -1,6 +1,6 @@
-use Rattle.history_logs.proofs.LinesAt.{IsFoundIn, IsLeft}
+use Rattle.history_logs.proofs.FirstLines.{StandBefore, IsFoundIn}
 use Rattle.history_logs.proofs.logs.judging.command_of.Given as goal
 
 abbrev pub invariant-loop-above : goal.invariant-loop-above
 invariant-loop-above l =
-    IsLeft l.fn.log l.above l.rest × IsFoundIn l.fn.log l.above l.command
+    StandBefore l.fn.log l.above l.rest × IsFoundIn l.fn.log l.above l.command

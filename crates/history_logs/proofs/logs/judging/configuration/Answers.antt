@@ -1,6 +1,6 @@
 use Rattle.history_logs.proofs.Words.{ap, listed, ◌++◌, ◌∙◌}
 use Rattle.iox2_dynamic.specs.Service.{Service}
-use Rattle.history_logs.proofs.Telling.{reported_of}
+use Rattle.history_logs.proofs.Refusing.{reported_of}
 use Rattle.history_logs.proofs.logs.judging.configuration.Goals as goal
 
 pub returns : goal.returns

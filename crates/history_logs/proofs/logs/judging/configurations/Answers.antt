@@ -1,4 +1,4 @@
-use Rattle.history_logs.proofs.Telling.{reported_more}
+use Rattle.history_logs.proofs.Refusing.{reported_more}
 use Rattle.history_logs.proofs.logs.judging.configurations.Goals as goal
 
 pub loop-config-preserved : goal.loop-config-preserved

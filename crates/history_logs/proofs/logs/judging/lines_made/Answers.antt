@@ -1,4 +1,4 @@
-use Rattle.history_logs.proofs.Telling.{lines_all}
+use Rattle.history_logs.proofs.Refusing.{lines_all}
 use Rattle.history_logs.proofs.logs.judging.lines_made.Goals as goal
 
 pub returns : goal.returns

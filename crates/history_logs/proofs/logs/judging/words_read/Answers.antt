@@ -1,5 +1,5 @@
 use Rattle.history_logs.proofs.Words.{IfOk-weaker, line_seen, sym}
-use Rattle.history_logs.proofs.LinesAt.{words_said}
+use Rattle.history_logs.proofs.FirstLines.{words_said}
 use Rattle.history_logs.proofs.logs.judging.words_read.Goals as goal
 
 pub returns-in-Some : goal.returns-in-Some

@@ -1,13 +1,29 @@
--- What the fields of the callers tell.
+-- What the fields of a service, and of the callers, of a log tell.
 use Rattle.std.specs.Cmp.Lexicographic.{slice_cmp}
 use Rattle.std.specs.Global.{Vec}
 use Rattle.std.specs.List.{count_by}
 use Rattle.std.specs.Map.{lookup, values_of}
 use Rattle.std.specs.Ordering.{is_eq, nat_cmp}
-use Rattle.std.specs.Prelude.{◌≡◌, ◌+◌, ℕ, List, Bool, false, Option, Some, None, cond, eqb, get_or}
+use Rattle.std.specs.Prelude.{◌≡◌, ◌+◌, ◌++◌, ℕ, List, Bool, false, Option, Some, None, cond, eqb, get_or, replicate}
 use Rattle.history_logs.specs.declared.logs.callers.CallerState.{CallerState}
 use Rattle.history_logs.specs.declared.logs.callers.CallerState.TheVariants as caller
+use Rattle.history_logs.specs.declared.logs.service.LogService.TheInside as service
 use Rattle.history_logs.specs.Reading.{Sets}
+use Rattle.history_logs.specs.Seen.{Service, forgotten}
+
+-- the service that its fields tell
+abbrev pub service_of : service.Inside → Service
+service_of c = record {
+  line = c.line;
+  start = c.start;
+  first = c.first;
+  calls = replicate c.first forgotten ++ c.calls.items;
+  given = c.given.items;
+  begins = c.begins.items;
+  commands = c.commands.items;
+  events = c.events.items;
+  event_lines = c.event_lines.items;
+}
 
 -- what the callers do that they tell
 abbrev pub callers_of : List (Vec ℕ × CallerState) → List ℕ → Option CallerState
