@@ -1,5 +1,5 @@
 -- Calls that overlap nothing are runs.
-use Rattle.service_conformance.proofs.Names.{AllByRecursion, List, None, Option, Some, [], ap, arith, length, map, range_with_len, refl, slice_get, subst, suc, sym, zero, ℕ, ◌++◌, ◌+◌, ◌<◌, ◌^◌, ◌↔◌, ◌∙◌, ◌∷◌, ◌≡◌, same_Some, Answered, Call, CallStep, Command, First, Gives, Handle, IsBare, IsBounded, IsBoundedRegistry, IsExplained, IsRegistry, IsService, Judged, JudgedStep, KeepsHandles, Leads, MayGive, PortDetails, RegistryState, Reply, Run, Second, Serves, ServesDeregister, ServesRelease, Service, ServiceStep, Side, State, Watched, WindowStep, added_role, answered, at_first, call, call_of, calls_alone, cons_same, handle_for, handle_in, handle_named, judged_of, named, ports_at, quiet, quiet_state, role_at, role_of, text_of, unwatched}
+use Rattle.service_conformance.proofs.Names.{AllByRecursion, List, None, Option, Some, [], ap, arith, length, map, range_with_len, refl, slice_get, subst, suc, sym, zero, ℕ, ◌++◌, ◌+◌, ◌<◌, ◌^◌, ◌↔◌, ◌∙◌, ◌∷◌, ◌≡◌, same_Some, Answered, Call, CallStep, Command, First, Gives, Handle, IsBare, IsBounded, IsBoundedRegistry, IsExplained, IsRegistry, IsService, Judged, JudgedStep, KeepsHandles, Leads, MayGive, PortDetails, RegistryState, Reply, Run, Second, Serves, Service, ServiceStep, Side, State, Watched, WindowStep, added_role, answered, at_first, call, call_of, calls_alone, cons_same, handle_for, handle_in, handle_named, judged_of, ports_at, quiet, quiet_state, role_at, role_of, text_of, unwatched}
 use Rattle.histories.specs.Laws.{in_order}
 use Rattle.histories.proofs.Alone.{calls_alone_are_runs}
 use Rattle.histories.proofs.Indices.{only}
@@ -23,12 +23,7 @@ record IsOwn (s : Service) (c : Command) (h : Handle) : Type 0 where
 own_of : {T : Type 0} (s : Service) (c : Command) (r : RegistryState T) (h : Handle)
     → IsRegistry r → IsBoundedRegistry r → r.service ≡ s.nodes.registry.service
     → r.role ≡ added_role c → MayGive r h → IsOwn s c h
-own_of s c r h i b number role may = record {
-  slot = omega (arith, may.fits, b.slots);
-  ticket = omega (arith, may.ticket, i.budget_kept, b.tickets);
-  service = may.service ∙ number;
-  role = may.role ∙ role;
-}
+own_of s c r h i b number role may = grind arith
 
 module _ (s mid : Service) (i : IsService s) (kept : IsService mid) (b : IsBounded s) where
   bounded : (side : Side) → IsBoundedRegistry (ports_at s side).registry
@@ -37,10 +32,7 @@ module _ (s mid : Service) (i : IsService s) (kept : IsService mid) (b : IsBound
 
   own_port : (d : PortDetails) (h : Handle) (side : Side) → role_of d ≡ role_at s.pattern side
       → MayGive (ports_at s side).registry h → IsOwn s (command.Add d) h
-  own_port d h side role may =
-      let p = ports_are s side i in
-      own_of s (command.Add d) (ports_at s side).registry h p.is_registry (bounded side)
-      p.number_is (p.role_is ∙ sym role) may
+  own_port d h side role may = grind (arith, ports_are, own_of, bounded)
 
   own_given : (handles : List (Option Handle)) (c : Command) (h : Handle)
       → Serves s None handles c (reply.Handle h) mid → IsOwn s c h
@@ -51,12 +43,8 @@ module _ (s mid : Service) (i : IsService s) (kept : IsService mid) (b : IsBound
       let a = so.1.1.0 in
       own_port d h a.side a.role_is
       (attach_may s d a.side h a.role_is (mid, so, kept)).1
-  own_given handles (command.Deregister k) h so =
-      absurd (neither (λ x. ServesDeregister s x (reply.Handle h) mid) (λ n. n) (λ x n. n)
-      (named handles k) so)
-  own_given handles (command.Release k) h so =
-      absurd (neither (λ x. ServesRelease s x (reply.Handle h) mid) (λ n. n) (λ x n. n)
-      (named handles k) so)
+  own_given handles (command.Deregister k) h so = grind (arith, neither)
+  own_given handles (command.Release k) h so = grind (arith, neither)
   own_given handles command.Nodes h so = absurd so.0
   own_given handles (command.List role) h so = absurd so.0
   own_given handles (command.Count role) h so = absurd so.0
@@ -79,19 +67,11 @@ module _ (s mid : Service) (i : IsService s) (kept : IsService mid) (b : IsBound
       let is = is_handle r h e in
       let own = own_is h is in
       absurd (gives h.slot h.ticket own.slot own.ticket (sym (ap text_of is)))
-  given_is (Some h) e (Some k) gives =
-      let is = is_handle r h e in
-      let own = own_is h is in
-      let parts =
-      parts_same h.slot h.ticket k.slot k.ticket own.slot own.ticket gives.1 gives.2
-      (sym (ap text_of is) ∙ gives.0) in
-      ap Some (one_handle h k (own.service ∙ sym gives.3) (own.role ∙ sym gives.4) parts.0 parts.1)
+  given_is (Some h) e (Some k) gives = grind (arith, is_handle, own_is, parts_same, one_handle)
 
   pub given_same : (words : List ℕ) (g : Option Handle) → text_of r ≡ words
       → Gives s.nodes.registry.service c words g → handle_in r ≡ g
-  given_same words g text gives =
-      given_is (handle_in r) refl g
-      (subst (λ w. Gives s.nodes.registry.service c w g) (sym text) gives)
+  given_same words g text gives = grind (arith, given_is)
 
 -- a command that names a number is one that names command 0, where that gave its handle
 first_serves : (s mid : Service) (handles : List (Option Handle)) (c : Command) (r : Reply)
@@ -136,23 +116,8 @@ module _ (old : State) (a : Answered) (bare : IsBare old)
       (keeps old.service mid old.handles (handle_in r) move bare.keeps) in
       record {
         text = text;
-        step = (
-          subst (λ d. Serves old.service d old.handles a.command r mid) (sym bare.bare) so,
-          ap (next old mid) (sym same),
-          record { is_service = is; differ = kept.differ },
-        );
-        bare = record {
-          is_service = is;
-          keeps = kept;
-          bounded =
-              record {
-                nodes = stays_bounded _ _ move.nodes bare.bounded.nodes;
-                first = stays_bounded _ _ move.first bare.bounded.first;
-                second = stays_bounded _ _ move.second bare.bounded.second;
-              };
-          bare = bare.bare;
-          rest = rest;
-        };
+        step = grind arith;
+        bare = grind (arith, stays_bounded);
         number = move.nodes.service;
       }
 
@@ -202,11 +167,7 @@ module _ (old : State) (a : Answered) (bare : IsBare old)
         (serves_quiet old.service None old.handles a.command r new.service served_bare))
 
     back_state : quiet_state new ≡ next old (quiet new.service) a.given
-    back_state =
-        ap quiet_state step.1
-        ∙ ap (next old (quiet new.service))
-        (given_same old.service new.service bare.is_service step.2.is_service bare.bounded
-        old.handles a.command r served_bare a.words a.given text gives)
+    back_state = grind (arith, given_same, served_bare)
 
 abbrev AllGive : ℕ → List Answered → Type 0
 AllGive number reported = AllByRecursion (λ a. Gives number a.command a.words a.given) reported

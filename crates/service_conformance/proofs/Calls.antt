@@ -1,5 +1,5 @@
 -- What calls that were seen do.
-use Rattle.service_conformance.proofs.Names.{All-push, All-weaker, AllocError, Contains, Contains-append_left, Contains-push, IfOk, List, None, Option, Result, Some, [], ap, arith, false, inl, inr, refl, subst, sym, true, ℕ, ◌++◌, ◌+◌, ◌<◌, ◌∙◌, ◌∷◌, ◌≡◌, ◌⊎◌, cases_lt, IfOk-weaker, All-cons, All-nil, All, get_or, length, ◌≢◌, all_pairs_push, AreAll, ArePossible, ArePossibleWords, AreRepliesOf, Call, CallStep, CanServe, ChangesNothing, Command, GivesBelow, Handle, IsIdleCall, IsSameReply, IsService, LeadsOn, LeadsTo, LineReply, MayGiveIn, Part, Possible, PossibleReplies, Reply, SeenReply, Serves, ServesCall, ServesDead, Service, ReadsReply, changes_nothing, handle_in, is_removal, named, quiet, reply_in, seen_text, text_of, AreEnough, AreGivenBelow, All-head, Ok, AddStep, Entry, First, RegistryState, Second, ServesDeregister, ServesRelease, ports_at, role_of, slot_entry, Cleanup}
+use Rattle.service_conformance.proofs.Names.{All-push, All-weaker, AllocError, Contains, Contains-append_left, Contains-push, IfOk, List, None, Option, Result, Some, [], ap, arith, false, inl, inr, refl, subst, sym, true, ℕ, ◌++◌, ◌+◌, ◌<◌, ◌∙◌, ◌∷◌, ◌≡◌, ◌⊎◌, cases_lt, IfOk-weaker, All-cons, All-nil, All, get_or, length, ◌≢◌, all_pairs_push, AreAll, ArePossible, ArePossibleWords, AreRepliesOf, Call, CallStep, CanServe, ChangesNothing, Command, GivesBelow, Handle, IsIdleCall, IsSameReply, IsService, LeadsOn, LeadsTo, LineReply, MayGiveIn, Part, Possible, PossibleReplies, Reply, SeenReply, Serves, ServesCall, ServesDead, Service, ReadsReply, changes_nothing, handle_in, is_removal, quiet, reply_in, seen_text, text_of, AreEnough, AreGivenBelow, All-head, Ok, AddStep, Entry, RegistryState, ports_at, role_of, slot_entry, Cleanup}
 use Rattle.service_descriptions.specs.declared.replay.machine.command.Command.TheVariants as command
 use Rattle.service_descriptions.specs.declared.replay.machine.reply.Reply.TheVariants as reply
 use Rattle.service_conformance.specs.declared.conformance.possible.Part.TheVariants as part
@@ -55,12 +55,8 @@ one_slot s next handles (command.Add d) g h one other =
     ∙ (ap (λ (w : Service). (ports_at w side).registry)
     (sym u.left ∙ (other.3 ∙ (sym one.3 ∙ t.left))) ∙ its_ports side s t.registry) in
     one_added (ports_at s side).registry t.registry d g h t.step (rw same at u.step)
-one_slot s next handles (command.Deregister k) g h one other =
-    absurd (neither (λ x. ServesDeregister s x (reply.Handle g) one.0) (λ n. n) (λ x n. n)
-    (named handles k) one.1)
-one_slot s next handles (command.Release k) g h one other =
-    absurd (neither (λ x. ServesRelease s x (reply.Handle g) one.0) (λ n. n) (λ x n. n)
-    (named handles k) one.1)
+one_slot s next handles (command.Deregister k) g h one other = grind (arith, neither)
+one_slot s next handles (command.Release k) g h one other = grind (arith, neither)
 one_slot s next handles command.Nodes g h one other = absurd one.1.0
 one_slot s next handles (command.List role) g h one other = absurd one.1.0
 one_slot s next handles (command.Count role) g h one other = absurd one.1.0
@@ -87,13 +83,7 @@ enough Fact xs all = (all.0, inl all.1)
 pub enough_as : {S : Type 0} (Fact Other : S → Type 0) (xs : List S)
     → ((x : S) → Fact x → Other x) → ((x : S) → Other x → Fact x) → AreEnough Fact xs
     → AreEnough Other xs
-enough_as Fact Other xs there back enough = (
-  All-weaker Fact Other there xs enough.0,
-  elim enough.1 [
-    | inl all ↦ inl (λ x o. all x (back x o))
-    | inr many ↦ inr many
-  ],
-)
+enough_as Fact Other xs there back enough = grind (arith, All-weaker, enough)
 
 all_and_one : {S : Type 0} (Fact Other : S → Type 0) (xs : List S) (x : S)
     → ((y : S) → Fact y → Other y) → Other x → ((y : S) → Other y → Fact y ⊎ (y ≡ x))
@@ -110,30 +100,18 @@ all_and_one {S} Fact Other xs x there is back all = (
 -- handles of one slot that a registry may give are the same
 same_given : (s : Service) (p : Part) (h k : Handle) → MayGiveIn s p h → MayGiveIn s p k
     → h.slot ≡ k.slot → h ≡ k
-same_given s part.Nodes h k m n e = same_handle s.nodes.registry h k m n e
-same_given s part.First h k m n e = same_handle s.ports.first.registry h k m n e
-same_given s part.Second h k m n e = same_handle s.ports.second.registry h k m n e
+same_given s _ h k m n e = grind (arith, same_handle)
 
 -- a reply that gives no handle and is of no removal changes nothing
 dead_any : (s mid : Service) (dead : ℕ) (cleanup : Cleanup) (r : Reply) → is_removal r ≡ false
     → ServesDead s dead cleanup r mid → quiet mid ≡ s
-dead_any s mid dead cleanup reply.HasOwners e so = absurd (let z : true ≡ false = e in cc)
-dead_any s mid dead cleanup reply.NoMoreOwners e so = absurd (let z : true ≡ false = e in cc)
-dead_any s mid dead cleanup _ e so = absurd so
+dead_any s mid dead cleanup _ e so = grind arith
 
 stays : (s mid : Service) (handles : List (Option Handle)) (c : Command) (r : Reply)
     → quiet s ≡ s → handle_in r ≡ None → is_removal r ≡ false
     → Serves s None handles c r mid → quiet mid ≡ s
-stays s mid handles (command.Register id) r rest none e so =
-    register_stays s rest id r none mid so
-stays s mid handles (command.Deregister k) r rest none e so =
-    deregister_stays s rest (named handles k) r e mid so
-stays s mid handles (command.Add d) r rest none e so = attach_stays s d rest r none mid so
-stays s mid handles (command.Release k) r rest none e so =
-    release_stays s rest (named handles k) r e mid so
-stays s mid handles (command.Dead dead cleanup) r rest none e so =
-    dead_any s mid dead cleanup r e so
-stays s mid handles _ r rest none e so = ap quiet so.1 ∙ rest
+stays s mid handles _ r rest none e so =
+    grind (arith, register_stays, deregister_stays, attach_stays, release_stays, dead_any)
 
 module _ (call : Call) (s : Service) where
   leads_on : (r : Reply) (next : Service) → CanServe (ServesCall call s) r
@@ -146,18 +124,13 @@ module _ (call : Call) (s : Service) where
 
   module _ (is : IsService s) (rest : quiet s ≡ s) where
     nothing : (r : Reply) (next : Service) → IsPlain r → LeadsOn call s r next → next ≡ s
-    nothing r next n on =
-        sym on.3
-        ∙ stays s on.0 (call.handle ∷ []) call.command r rest n.0 n.1 on.1
+    nothing r next n on = grind (arith, stays)
 
     -- replies that are the same lead on to one service
     same_next : (r q : Reply) (next other : Service) → IsSameReply r q
         → LeadsTo (ServesCall call s) r next → LeadsOn call s r next → LeadsOn call s q other
         → other ≡ next
-    same_next r q next other same leads first on = elim (same_or_plain r q same) [
-      | inl e ↦ one_next r next other leads (subst (λ x. LeadsOn call s x other) (sym e) on)
-      | inr n ↦ nothing q other n.1 on ∙ sym (nothing r next n.0 first)
-    ]
+    same_next r q next other same leads first on = grind (arith, same_or_plain, one_next, nothing)
 
     module _ (p : Possible) (words : List ℕ) (has : call.words ≡ Some words)
         (all : ArePossible s (ServesCall call s) p) where
@@ -227,20 +200,14 @@ module _ (call : Call) (s : Service) where
               (h, may, omega (arith, at), on)
               (λ x g. (elim (cases_lt g.0.slot slot) [
                 | inl l ↦ inl (g.0, g.1, l, g.3)
-                | inr m ↦ inr (one_next (reply.Handle h) next x leads
-                    (subst (λ k. LeadsOn call s (reply.Handle k) x)
-                    (same_given s p g.0 h g.1 may (omega (arith, at, g.2))) g.3))
+                | inr m ↦ grind (arith, one_next, same_given)
               ])) given.0,
           all_pairs_push (λ a b. a ≢ b) xs next given.1
               (given_differs slot xs h next at on given.0.0),
         )
 
     pub none_given : (xs : List Service) → xs ≡ [] → AreGivenBelow call s p 0 xs
-    none_given xs none =
-        rw none (
-          all_of_none (GivesBelow call s p 0) (λ x g. absurd (omega (arith, g.2))),
-          λ i j d less below. absurd (omega (arith, below)),
-        )
+    none_given xs none = grind (arith, all_of_none)
 
     module _ (is : IsService s) (rest : quiet s ≡ s) (none : call.words ≡ None) where
       given_step : (limit : ℕ) (x : Service) → GivesBelow call s p limit x → CallStep call s x
@@ -268,14 +235,10 @@ module _ (call : Call) (seen : SeenReply) (has : call.words ≡ Some (seen_text 
     (nothing : changes_nothing seen ≡ true) where
   same_state : (old mid : Service) (r : Reply) → quiet old ≡ old → text_of r ≡ seen_text seen
       → ServesCall call old r mid → quiet mid ≡ old
-  same_state old mid r rest text served =
-      let reported = reported_nothing r seen nothing text in
-      stays old mid (call.handle ∷ []) call.command r rest reported.0 reported.1 served
+  same_state old mid r rest text served = grind (arith, reported_nothing, nothing, stays)
 
   pub changes_none : ChangesNothing call
-  changes_none old new step =
-      let on = step.2.2 in
-      sym on.3 ∙ same_state old on.0 step.2.0 step.1 (rw has at step.2.1) on.1
+  changes_none old new step = grind (arith, same_state)
 
   pub idle : (s : Service) (p : Possible) (r : Reply) → IsService s → quiet s ≡ s
       → ArePossible s (ServesCall call s) p → ReadsReply s p (seen_text seen) (Some r)

@@ -86,8 +86,7 @@ module _ {F T : Type 0} (calls : F → T → Bool → F → Type 0) (is_dead ans
       in (
         record {
           marked = m.0;
-          called = subst (λ l. CalledInTurn calls f (details_where is_dead old) l f) (sym marks)
-              (called_so calls f answer so (details_where is_dead old));
+          called = grind (arith, called_so);
           recovers = (rw (entries_left m.0 marks) refl, refl);
         },
         kept_filter old mode (λ e. not (goes e.details)) k,
@@ -165,9 +164,7 @@ module _ (dead : ℕ) (old : ContainerState ℕ) where
       → state ≡ release_state (nodes_if left dead old.registry).locked
       → NodesAfter dead left old state (container (nodes_if left dead old.registry) old.touches)
   nodes_step true state k e = (e, refl)
-  nodes_step false state k e =
-      subst (λ t. RecoversNodes dead old t (container (without_node dead old.registry) old.touches))
-      (sym e) (nodes_can k)
+  nodes_step false state k e = grind (arith, nodes_can)
 
 module _ (s : Service) (dead : ℕ) (kept : Vec ℕ) where
   abbrev Dies : Reply → Service → Type 0
@@ -205,9 +202,7 @@ module _ (s : Service) (dead : ℕ) (kept : Vec ℕ) where
 
   answers : (r : Reply) (w : Service) → Dies r w
       → (n : DeregisterNodeState) × (r ≡ reply_of_state n) × CleanedUp s dead (ByPort kept) n w
-  answers reply.HasOwners w so = (nodes.HasOwners, refl, so)
-  answers reply.NoMoreOwners w so = (nodes.NoMoreOwners, refl, so)
-  answers _ w so = absurd so
+  answers _ w so = grind arith
 
   -- what a reply leaves, by its parts
   pub dead_left : (r : Reply) (F G : RegistryState PortDetails) (b : Bool) → F ≡ first → G ≡ second
@@ -249,14 +244,7 @@ module _ (s : Service) (dead : ℕ) (kept : Vec ℕ) where
 
   can_die : (n : DeregisterNodeState) → IsService s → state_of n ≡ release_state locked
       → CleanedUp s dead (ByPort kept) n (after some)
-  can_die n i e = (
-    [],
-    record {
-      ports = both i;
-      nodes = nodes_step dead s.nodes some (state_of n) i.nodes_are e;
-      others = refl;
-    },
-  )
+  can_die n i e = grind (arith, both, nodes_step)
 
   dead_only : (b : Bool) → b ≡ locked → (r : Reply) (w : Service) → Dies r w
       → reply_in (reply_of_owners b) ≡ r

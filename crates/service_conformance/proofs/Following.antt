@@ -1,5 +1,5 @@
 -- The one state that a reply leaves.
-use Rattle.service_conformance.proofs.Names.{Err, None, Ok, Option, Some, ap, false, inl, inr, refl, subst, true, ℕ, ◌∙◌, ◌≡◌, AddStep, AddsPort, CanServe, ContainerHandleNotOwnedByContainer, Default, First, Handle, IsRegistry, IsService, LeadsTo, LockIfLastIndex, MayGive, OutOfSpace, PortDetails, RegistryState, ReleaseState, RemoveStep, RemovesPort, Reply, Reports, Second, ServesAdd, ServesDeregister, ServesRegister, ServesRelease, Service, Side, TakesEntry, at_rest, handle_in, is_removal, ports_at, quiet, role_at, role_of}
+use Rattle.service_conformance.proofs.Names.{arith, Err, None, Ok, Option, Some, ap, false, inl, inr, refl, subst, true, ℕ, ◌∙◌, ◌≡◌, AddStep, AddsPort, CanServe, ContainerHandleNotOwnedByContainer, Default, First, Handle, IsRegistry, IsService, LeadsTo, LockIfLastIndex, MayGive, OutOfSpace, PortDetails, RegistryState, ReleaseState, RemoveStep, RemovesPort, Reply, Reports, Second, ServesAdd, ServesDeregister, ServesRegister, ServesRelease, Service, Side, TakesEntry, at_rest, handle_in, is_removal, ports_at, quiet, role_at, role_of}
 use Rattle.service_conformance.proofs.Taking.{at_side, ports_taken}
 use Rattle.service_descriptions.specs.declared.replay.machine.reply.Reply.TheVariants as reply
 use Rattle.service_conformance.proofs.Possibles.{adds_at, removes_at}
@@ -27,19 +27,12 @@ no_handle h e = (let z : ◌≡◌ {A = Option Handle} (Some h) None = e in cc)
 
 module _ (s : Service) (rest : quiet s ≡ s) where
   pub register_stays : (id : ℕ) (r : Reply) → handle_in r ≡ None → LeadsTo (ServesRegister s id) r s
-  register_stays id (reply.Handle h) e = absurd (no_handle h e)
-  register_stays id reply.Locked e = λ w so. by_nodes s w s.nodes.registry so.1 so.0.step.1 ∙ rest
-  register_stays id reply.Full e = λ w so. by_nodes s w s.nodes.registry so.1 so.0.step.2 ∙ rest
-  register_stays id _ e = λ w so. absurd so
+  register_stays id _ e = grind (arith, no_handle, by_nodes)
 
   pub deregister_stays : (handle : Option Handle) (r : Reply) → is_removal r ≡ false
       → LeadsTo (ServesDeregister s handle) r s
-  deregister_stays None reply.NoHandle e = λ w so. ap quiet so ∙ rest
-  deregister_stays (Some h) reply.HasOwners e = absurd (let z : true ≡ false = e in cc)
-  deregister_stays (Some h) reply.NoMoreOwners e = absurd (let z : true ≡ false = e in cc)
-  deregister_stays (Some h) reply.PortsAttached e = λ w so. ap quiet so.3 ∙ rest
-  deregister_stays (Some h) reply.NotOwned e = λ w so. ap quiet so.1 ∙ rest
-  deregister_stays _ _ e = λ w so. absurd so
+  deregister_stays None _ e = grind arith
+  deregister_stays (Some h) _ e = grind arith
 
 pub register_enters : (s : Service) (id : ℕ) (h : Handle)
     → CanServe (ServesRegister s id) (reply.Handle h) → (m : RegistryState ℕ)
@@ -65,13 +58,7 @@ pub deregister_goes : (s : Service) (h : Handle) (r : Reply) (m : RegistryState 
     → RemoveStep s.nodes.registry h LockIfLastIndex (Ok state) new → new ≡ m)
     → LeadsTo (ServesDeregister s (Some h)) r
     (at_rest s.pattern m s.ports.first.registry s.ports.second.registry)
-deregister_goes s h reply.HasOwners m e gone = λ w so.
-    by_nodes s w m so.4 (gone _ _ so.3.step)
-deregister_goes s h reply.NoMoreOwners m e gone = λ w so.
-    by_nodes s w m so.4 (gone _ _ so.3.step)
-deregister_goes s h reply.PortsAttached m e gone = absurd (let z : false ≡ true = e in cc)
-deregister_goes s h reply.NotOwned m e gone = absurd (let z : false ≡ true = e in cc)
-deregister_goes s h _ m e gone = λ w so. absurd so
+deregister_goes s h _ m e gone = grind (arith, by_nodes)
 
 same_side : (side : Side) (s : Service) → at_side side s (ports_at s side).registry ≡ quiet s
 same_side First s = refl
@@ -84,12 +71,7 @@ module _ (s : Service) (d : PortDetails) where
       t.left ∙ (ap (at_side a.side s) t.step.2 ∙ (same_side a.side s ∙ rest))
 
   pub attach_stays : quiet s ≡ s → (r : Reply) → handle_in r ≡ None → LeadsTo (ServesAdd s d) r s
-  attach_stays rest (reply.Handle h) e = absurd (no_handle h e)
-  attach_stays rest reply.Locked e = λ w so. ap quiet so.1.1 ∙ rest
-  attach_stays rest reply.NotRegistered e = λ w so. ap quiet so.1.2 ∙ rest
-  attach_stays rest reply.Full e = λ w so. refused_add rest w so.1.1
-  attach_stays rest reply.WrongPattern e = λ w so. ap quiet so.1 ∙ rest
-  attach_stays rest _ e = λ w so. absurd so
+  attach_stays rest _ e = grind (arith, no_handle, refused_add)
 
   module _ (side : Side) (h : Handle) (role : role_of d ≡ role_at s.pattern side) where
     pub attach_enters : CanServe (ServesAdd s d) (reply.Handle h)
@@ -119,10 +101,8 @@ refused_removal s h rest w (inr a, e) = ap quiet e ∙ rw a.2 rest
 
 pub release_stays : (s : Service) → quiet s ≡ s → (handle : Option Handle) (r : Reply)
     → is_removal r ≡ false → LeadsTo (ServesRelease s handle) r s
-release_stays s rest None reply.NoHandle e = λ w so. ap quiet so ∙ rest
-release_stays s rest (Some h) reply.Released e = absurd (let z : true ≡ false = e in cc)
-release_stays s rest (Some h) reply.NotOwned e = λ w so. refused_removal s h rest w so
-release_stays s rest _ _ e = λ w so. absurd so
+release_stays s rest None _ e = grind arith
+release_stays s rest (Some h) _ e = grind (arith, refused_removal)
 
 module _ (s : Service) (h : Handle) where
   module _ (side : Side) (role : h.role ≡ role_at s.pattern side) (m : RegistryState PortDetails)

@@ -1,5 +1,5 @@
 -- What is given of a service that was in use.
-use Rattle.service_conformance.proofs.Names.{All, All-cons, All-head, All-nil, All-push, All-weaker, AllPairs, Bool, IfOk, List, OnErr, [], all_pairs_push, ap, arith, false, append-nil, refl, subst, sym, true, ℕ, ◌++◌, ◌<◌, ◌∙◌, ◌∷◌, ◌≡◌, ◌≢◌, ◌≤◌, false_from_ne_true, Becomes, Entry, First, GivesNode, GivesNodes, GivesPort, GivesPorts, IsBefore, IsPortRegistry, IsRegistry, IsService, IsUnused, MayStand, PortDetails, Registered, RegistryState, Role, Second, Service, Side, StandsLast, UsedSo, container, entries_of_node, is_of, node_of, ports_at, role_at, role_of, slot_entry, with_last, with_nodes, with_ports, with_used, Result, Ok, Err}
+use Rattle.service_conformance.proofs.Names.{All, All-cons, All-head, All-nil, All-push, All-weaker, AllPairs, Bool, IfOk, List, OnErr, [], all_pairs_push, ap, arith, false, append-nil, refl, subst, sym, true, ℕ, ◌++◌, ◌<◌, ◌∙◌, ◌∷◌, ◌≡◌, ◌≢◌, ◌≤◌, false_from_ne_true, Becomes, Entry, First, GivesNode, GivesNodes, GivesPort, GivesPorts, IsBefore, IsPortRegistry, IsRegistry, IsService, IsUnused, MayStand, PortDetails, Registered, RegistryState, Role, Second, Service, Side, StandsLast, UsedSo, container, entries_of_node, node_of, ports_at, role_at, role_of, slot_entry, with_last, with_nodes, with_ports, with_used, Result, Ok, Err}
 use Rattle.iox2_container.proofs.Counting.{counted, counted-between}
 use Rattle.iox2_container.proofs.Lists.{All-back, AllPairs-head, AllPairs-tail}
 use Rattle.iox2_dynamic.proofs.Keeping.{with_nodes as other_nodes}
@@ -59,20 +59,12 @@ stands_only {T} r slot ticket details k =
 -- the registry with one more entry, by the fields
 pub last_is : {T : Type 0} (s r : RegistryState T) (e : Entry T) (l : List (Entry T)) → s ≡ r
     → l ≡ s.entries ++ e ∷ [] → record s { entries = l } ≡ with_last r e
-last_is {T} s r e l same is =
-    ap (λ (es : List (Entry T)). record s { entries = es }) is
-    ∙ ap (λ (x : RegistryState T). record x { entries = x.entries ++ e ∷ [] }) same
+last_is {T} s r e l same is = grind arith
 
 -- one more node leaves those that are registered
 more_of : (id : ℕ) (r : RegistryState ℕ) (x : Entry ℕ)
     → entries_of_node id r ≤ entries_of_node id (with_last r x)
-more_of id r x =
-    let p : ℕ → Bool = is_of (λ i. i) id in
-    omega (
-      arith,
-      counted-between p r.entries x [],
-      ap (counted p) (append-nil r.entries),
-    )
+more_of id r x = grind (arith, counted-between, counted, append-nil)
 
 registered_more : (r : RegistryState ℕ) (x : Entry ℕ) (ports : List (Entry PortDetails))
     → Registered r ports → Registered (with_last r x) ports
@@ -95,23 +87,13 @@ nodes_is s r i k number role more =
 ports_is : (s : Service) (side : Side) (r : RegistryState PortDetails) → IsService s
     → IsPortRegistry s.nodes.registry (role_at s.pattern side) r
     → IsService (with_ports side s r)
-ports_is s First r i p = record {
-  nodes_are = i.nodes_are;
-  role_is = i.role_is;
-  ports_are = record { first = p; second = i.ports_are.second };
-}
-ports_is s Second r i p = record {
-  nodes_are = i.nodes_are;
-  role_is = i.role_is;
-  ports_are = record { first = i.ports_are.first; second = p };
-}
+ports_is s _ r i p = grind arith
 
 -- and the other way round
 ports_only : (s : Service) (side : Side) (r : RegistryState PortDetails)
     → IsService (with_ports side s r)
     → IsPortRegistry s.nodes.registry (role_at s.pattern side) r
-ports_only s First r i = i.ports_are.first
-ports_only s Second r i = i.ports_are.second
+ports_only s _ r i = grind arith
 
 -- the same ports leave the service as it is
 pub same_ports : (s : Service) (side : Side) → with_ports side s (ports_at s side).registry ≡ s
@@ -133,11 +115,7 @@ module _ {T : Type 0} (put : RegistryState T → Service) (old target : Registry
       → (result : Result Bool E) (r : RegistryState T) → IfOk result (λ so. Becomes Is old so r)
       → OnErr result (r ≡ old)
       → IfOk result (λ so. Becomes Gives s so (put r)) × IsService (put r)
-  becomes to from (Ok true) r b err =
-      let t = to r b in
-      let is = ap put t.0.0 in
-      let kept = subst IsService (sym is) (there (subst IsRegistry t.0.0 t.0.1)) in
-      (t.1 (put r) (is, kept), kept)
+  becomes to from (Ok true) r b err = grind arith
   becomes to from (Ok false) r b err =
       let is : put r ≡ s = ap put b.1 ∙ same in (
         (
@@ -186,15 +164,7 @@ module _ (s : Service) (i : IsService s) where
     ports_stay : (r : RegistryState PortDetails) → IsRegistry r → r.service ≡ now.service
         → r.role ≡ now.role → r.locked ≡ false → Registered s.nodes.registry r.entries
         → IsService (with_ports side s r)
-    ports_stay r k number role is_open registered =
-        let p = ports_are s side i in
-        ports_is s side r i (record {
-          is_registry = k;
-          number_is = number ∙ p.number_is;
-          role_is = role ∙ p.role_is;
-          is_open = is_open;
-          registered = registered;
-        })
+    ports_stay r k number role is_open registered = grind (arith, ports_are, ports_is)
 
     pub gives_ports : (role : Role) (used : ℕ) (so : Bool) (r : RegistryState PortDetails)
         → role ≡ role_at s.pattern side → Becomes (UsedSo now used false) now so r

@@ -45,8 +45,7 @@ module _ (c : Call) (w : Watched) (is : IsWatched w) (xs : List Service) where
     each_leaves enough.0,
     elim enough.1 [
       | inl all ↦ inl (has_leaves all)
-      | inr many ↦
-          inr (omega (arith, many.0, length-map xs (λ s. watched s w.looks)), differ_watched many.1)
+      | inr many ↦ grind (arith, length-map, differ_watched)
     ],
   )
 
@@ -90,9 +89,7 @@ idle_leaves c w is idle = (
 module _ (first : ℕ) (calls : List Judged) (number : ℕ) where
   pub one_call : (a b : Judged) → HasNumber first calls number a → HasNumber first calls number b
       → b ≡ a
-  one_call a b p q =
-      let at : q.0 ≡ p.0 = omega (arith, p.1, q.1) in
-      same_Some b a (sym q.2 ∙ (ap (slice_get calls) at ∙ p.2))
+  one_call a b p q = grind (arith, same_Some)
 
   module _ (call : Judged) (has : HasNumber first calls number call) (s : Watched) where
     step_there : (x : Watched) → JudgedStep number call s x → WindowStep first calls s number x
@@ -105,27 +102,19 @@ module _ (first : ℕ) (calls : List Judged) (number : ℕ) where
         → IfOk found (λ left. AreEnough (JudgedStep number call s) (states_in left))
         → IfOk found
         (λ left. AreEnough (λ new. WindowStep first calls s number new) (states_in left))
-    window_followed found =
-        IfOk-weaker found _ _ (λ left. enough_as (JudgedStep number call s)
-        (λ new. WindowStep first calls s number new) (states_in left) step_there step_back)
+    window_followed found = grind (arith, IfOk-weaker, enough_as, step_there, step_back)
 
     pub window_made : (made : Result Bool AllocError) (new : Watched)
         → IfOk made (IsMade (JudgedStep number call s) s new)
         → IfOk made (IsMade (λ x. WindowStep first calls s number x) s new)
-    window_made (Ok true) new all =
-        all_as (JudgedStep number call s) (λ x. WindowStep first calls s number x) (new ∷ [])
-        step_there step_back all
+    window_made (Ok true) new all = grind (arith, all_as, step_there, step_back)
     window_made (Ok false) new same = same
     window_made (Err e) new is = tt
 
     pub window_idle : JudgedStep number call s s × IsIdleJudged number call
         → WindowStep first calls s number s
         × IsIdle (WindowStep first calls) number
-    window_idle idle = (
-      (call, has, idle.0),
-      λ old new step. idle.1 old new
-          (subst (λ c. JudgedStep number c old new) (one_call call step.0 has step.1) step.2),
-    )
+    window_idle idle = grind (arith, one_call)
 
   pub window_none : LacksNumber first calls number → (s : Watched)
       → AreEnough (λ new. WindowStep first calls s number new) []
@@ -137,20 +126,4 @@ pub windows_agree : (first : ℕ) (calls all : List Judged)
     → ((at : ℕ) → at < length calls → slice_get calls at ≡ slice_get all (first + at))
     → (number : ℕ) → IsWithin first (length calls) number → (old new : Watched)
     → WindowStep first calls old number new ↔ WindowStep 0 all old number new
-windows_agree first calls all same number within old new = (
-  λ step.
-      let has = step.1 in
-      let at = slice_get_within calls has.0 step.0 has.2 in
-      (step.0, (first + has.0, omega (arith, has.1), sym (same has.0 at) ∙ has.2), step.2),
-  λ step.
-      let has = step.1 in
-      let at : has.0 ≡ first + within.0 = omega (arith, has.1, within.2) in (
-        step.0,
-        (
-          within.0,
-          within.2,
-          same within.0 within.1 ∙ (ap (slice_get all) (sym at) ∙ has.2),
-        ),
-        step.2,
-      ),
-)
+windows_agree first calls all same number within old new = grind (arith, slice_get_within)

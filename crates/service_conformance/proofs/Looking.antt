@@ -34,29 +34,14 @@ seen_of there look = record look {
 }
 
 same_seen : (there : List ℕ) (l : Look) → seen_of there (seen_of there l) ≡ seen_of there l
-same_seen there l =
-    rw (
-      filter_again (λ id. not (is_among there id)) (λ id. not (is_among there id)) l.unseen
-          (λ k d h. inr refl),
-      filter_again (is_among there) (is_among there) l.lasting (λ k d h. inr refl),
-    ) refl
+same_seen there l = grind (arith, filter_again)
 
 pub lacking_is : (l m : Look) → lacking l ≡ Some m → l ≡ m
-lacking_is l m e = elim (cases_Bool (length l.unseen == 0 && length l.lasting == 0)) [
-  | inl t ↦
-      (let bars : None ≡ Some m = subst (λ (o : Option Look). o ≡ Some m) (rw t refl) e in
-      absurd (cc))
-  | inr f ↦ same_Some l m (subst (λ (o : Option Look). o ≡ Some m) (rw f refl) e)
-]
+lacking_is l m e = grind (arith, cases_Bool, same_Some)
 
 -- a weak listing that lacks nothing lacks nothing later
 none_later : (there : List ℕ) (l : Look) → lacking l ≡ None → look_after there l ≡ None
-none_later there l e =
-    by_cases _ (length l.unseen == 0 && length l.lasting == 0) (λ t.
-    let both = and_parts (length l.unseen == 0) (length l.lasting == 0) t in
-    rw (empty_of l.unseen both.0, empty_of l.lasting both.1) refl) (λ f.
-    let bars : Some l ≡ None = subst (λ (o : Option Look). o ≡ None) (rw f refl) e in
-    absurd (cc))
+none_later there l e = grind (arith, by_cases, and_parts, empty_of)
 
 -- the weak listing lacks the same later, whether it looks at this service before or not
 abbrev IsPassed : Service → Service → Look → Type 0
@@ -138,13 +123,7 @@ module _ (old mid new : Service) (between : IsBetween old mid new) where
   filter_between : (before one other : ℕ → Bool) (ids : List ℕ)
       → ((id : ℕ) → (one id ≡ before id) ⊎ (one id ≡ other id)) → filter before ids ≡ ids
       → filter other (filter one ids) ≡ filter other ids
-  filter_between before one other ids either e =
-      let all : All (λ id. before id ≡ true) ids =
-      subst (All (λ id. before id ≡ true)) e (filter_passes before ids) in
-      filter_again one other ids (λ k d h. elim (either (get_or ids k d)) [
-        | inl same ↦ inl (same ∙ all k d h)
-        | inr same ↦ inr same
-      ])
+  filter_between before one other ids either e = grind (arith, filter_passes, filter_again)
 
   seen_between : (l : Look) → seen_of (ids_in old l.part) l ≡ l → IsPassed mid new l
   seen_between l is =
@@ -178,9 +157,7 @@ module _ (old mid new : Service) (between : IsBetween old mid new) where
   -- they lack the same as if they had not looked
   pub looks_between : (looks : List Look) → looks_after old looks ≡ looks
       → looks_after new (looks_after mid looks) ≡ looks_after new looks
-  looks_between looks e =
-      looks_pass mid new looks
-      (subst (AllByRecursion (IsPassed mid new)) e (all_between looks))
+  looks_between looks e = grind (arith, looks_pass, all_between)
 
 -- no id came
 abbrev pub LosesIds : Service → Service → Type 0
@@ -189,11 +166,7 @@ LosesIds old new =
 
 pub loses_between : (old mid new : Service) → LosesIds old mid → LosesIds mid new
     → IsBetween old mid new
-loses_between old mid new first second p id =
-    by_cases _ (is_among (ids_in mid p) id) (λ t. inl (t ∙ sym (first p id t))) (λ f.
-    by_cases _ (is_among (ids_in new p) id) (λ t.
-    let was : is_among (ids_in mid p) id ≡ true = second p id t in
-    absurd (let z : true ≡ false = sym was ∙ f in cc)) (λ n. inr (f ∙ sym n)))
+loses_between old mid new first second p id = grind (arith, by_cases)
 
 -- a service at which an id is settled
 abbrev Settles : (Service → ℕ → Bool) → List Service → ℕ → Type 0
@@ -213,9 +186,7 @@ module _ (Test : Service → ℕ → Bool) (s : Service) (services : List Servic
   settled_rest : (ids : List ℕ) → AllByRecursion (Settles Test (s ∷ services)) ids
       → AllByRecursion (Settles Test services) (filter (λ id. not (Test s id)) ids)
   settled_rest [] all = tt
-  settled_rest (id ∷ ids) all =
-      let rest = settled_rest ids all.1 in
-      by_cases _ (Test s id) (λ t. rw t rest) (λ f. rw f (not_first id f all.0, rest))
+  settled_rest (id ∷ ids) all = grind (arith, by_cases, not_first, settled_rest ids all.1)
 
   rest_settled : (ids : List ℕ)
       → AllByRecursion (Settles Test services) (filter (λ id. not (Test s id)) ids)
@@ -259,37 +230,16 @@ module _ (s : Service) (l : Look) where
 
   module _ (services : List Service) where
     next_settled : AreSettled services next → AreSettled (s ∷ services) l
-    next_settled so = record {
-      unseen = rest_settled (was_there l.part) s services l.unseen so.unseen;
-      lasting = rest_settled (was_away l.part) s services l.lasting
-          (subst (AllByRecursion (Settles (was_away l.part) services))
-          (twice_not (is_among (ids_in s l.part)) l.lasting) so.lasting);
-    }
+    next_settled so = grind (arith, rest_settled, twice_not)
 
     settled_next : AreSettled (s ∷ services) l → AreSettled services next
-    settled_next so = record {
-      unseen = settled_rest (was_there l.part) s services l.unseen so.unseen;
-      lasting = subst (AllByRecursion (Settles (was_away l.part) services))
-          (sym (twice_not (is_among (ids_in s l.part)) l.lasting))
-          (settled_rest (was_away l.part) s services l.lasting so.lasting);
-    }
+    settled_next so = grind (arith, settled_rest, twice_not)
 
     over_settled : is_over ≡ true → AreSettled services next
-    over_settled t =
-        let both = and_parts (length next.unseen == 0) (length next.lasting == 0) t in
-        record {
-          unseen = subst (AllByRecursion (Settles (was_there l.part) services))
-              (sym (empty_of next.unseen both.0)) tt;
-          lasting = subst (AllByRecursion (Settles (was_away l.part) services))
-              (sym (empty_of next.lasting both.1)) tt;
-        }
+    over_settled t = grind (arith, and_parts, empty_of)
 
   settled_over : AreSettled [] next → is_over ≡ true
-  settled_over so =
-      rw (
-        none_settled (was_there l.part) next.unseen so.unseen,
-        none_settled (was_away l.part) next.lasting so.lasting,
-      ) refl
+  settled_over so = grind (arith, none_settled)
 
   one_next : is_over ≡ false → looks_after s (l ∷ []) ≡ next ∷ []
   one_next f = rw f refl
@@ -321,9 +271,7 @@ through s (x ∷ more) l =
 one_of : (P : ℕ → Type 0) (ids : List ℕ) (id : ℕ) → AllByRecursion P ids
     → is_among ids id ≡ true → P id
 one_of P [] id all here = absurd (cc)
-one_of P (x ∷ ids) id all here =
-    by_cases _ (x == id) (λ t. subst P (eqb-true x id t) all.0)
-    (λ f. one_of P ids id all.1 (rw f at here))
+one_of P (x ∷ ids) id all here = grind (arith, by_cases, eqb-true, one_of P ids id all.1)
 
 -- an id of a list that is not in the reply is among those of the list without the reply
 kept_one : (P : ℕ → Type 0) (reply ids : List ℕ) (id : ℕ) → AllByRecursion P (without reply ids)
@@ -336,9 +284,7 @@ kept_one P reply ids id all here away =
 kept_all : (P : ℕ → Type 0) (reply ids : List ℕ) → ((id : ℕ) → is_among reply id ≡ false → P id)
     → AllByRecursion P (without reply ids)
 kept_all P reply [] each = tt
-kept_all P reply (x ∷ ids) each =
-    let rest = kept_all P reply ids each in
-    by_cases _ (is_among reply x) (λ t. rw t rest) (λ f. rw f (each x f, rest))
+kept_all P reply (x ∷ ids) each = grind (arith, by_cases, kept_all P reply ids each)
 
 -- an id is there in all, or away in one
 there_or_away : (p : Part) (id : ℕ) (services : List Service)

@@ -53,9 +53,7 @@ added_role d h r m step = ap (λ (q : Handle). q.role) step.2.0
 same_nodes : (Step : RegistryState PortDetails → RegistryState PortDetails → Type 0)
     (s t : Service) (node : ℕ) → TakesPorts Step s t → 0 < entries_of_node node t.nodes.registry
     → 0 < entries_of_node node s.nodes.registry
-same_nodes Step s t node a =
-    subst (λ (r : RegistryState ℕ). 0 < entries_of_node node r)
-    (ap (λ (v : Service). v.nodes.registry) a.1.left)
+same_nodes Step s t node a = grind arith
 
 module _ (c other : Call) (h k : Handle) (old mid new : Service) (i : IsService old)
     (j : IsService mid) (l : IsService new) where
@@ -91,11 +89,8 @@ module _ (c other : Call) (h k : Handle) (old mid new : Service) (i : IsService 
       (ports_swap (λ q. Unit {0}) Default h k old mid new i a b, tt)
   swaps (change.PortRemoved role) (change.NodeRegistered id) is by may m n a b f =
       (ports_first (Addition id h) (PortRemoval k) old mid new a b, tt)
-  swaps (change.PortRemoved role) (change.PortAdded to node) is by may m n a b f = (
-    roles_swap (Addition by.0.0 h) (PortRemoval k) (added_role by.0.0 h) (removed_role k) role to
-        may m.1 n.1 a b,
-    tt,
-  )
+  swaps (change.PortRemoved role) (change.PortAdded to node) is by may m n a b f =
+      grind (arith, roles_swap, added_role, removed_role)
   swaps (change.NodeRegistered id) (change.PortRemoved role) is by may m n a b f =
       (nodes_first (Addition id k) (PortRemoval h) old mid new a b, tt)
   swaps (change.NodeRegistered id) (change.PortAdded role node) is by may m n a b f =
@@ -108,16 +103,10 @@ module _ (c other : Call) (h k : Handle) (old mid new : Service) (i : IsService 
     ports_first (Addition id h) (Addition is.0.0 k) old mid new a b,
     omega (arith, f, as_many id node h old mid may a),
   )
-  swaps (change.PortAdded role node) (change.PortRemoved to) is by may m n a b f = (
-    roles_swap (PortRemoval h) (Addition is.0.0 k) (removed_role h) (added_role is.0.0 k) role to
-        may m.1 n.1 a b,
-    same_nodes (PortRemoval h) old mid node a f,
-  )
-  swaps (change.PortAdded role node) (change.PortAdded to for) is by may m n a b f = (
-    roles_swap (Addition by.0.0 h) (Addition is.0.0 k) (added_role by.0.0 h) (added_role is.0.0 k)
-        role to may m.1 n.1 a b,
-    same_nodes (Addition by.0.0 h) old mid node a f,
-  )
+  swaps (change.PortAdded role node) (change.PortRemoved to) is by may m n a b f =
+      grind (arith, roles_swap, removed_role, added_role, same_nodes)
+  swaps (change.PortAdded role node) (change.PortAdded to for) is by may m n a b f =
+      grind (arith, roles_swap, added_role, same_nodes)
   swaps _ _ is by may m n a b f = absurd may
 
 -- so a call with the one change moves before one with the other
@@ -140,8 +129,7 @@ module _ (x y : Change) (may : CanPrecede x y) (c other : Call) (is : IsChange x
       record {
         between = w.0.between;
         before = before;
-        after = one.back a.0 a.1 w.0.between new left.0 left.1 w.0.after
-            (fits y other by a.0 w.0.between new w.0.after l.0);
+        after = grind (arith, fits);
         first = w.0.first;
         second = w.0.second;
       }

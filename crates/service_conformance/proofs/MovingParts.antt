@@ -1,5 +1,5 @@
 -- Changes of one registry of a service, and two of them in either order.
-use Rattle.service_conformance.proofs.Names.{Bool, List, Ok, [], ap, arith, length, refl, subst, sym, true, ℕ, ◌++◌, ◌||◌, ◌∙◌, ◌∷◌, ◌≡◌, inl, inr, map, ◌==◌, ◌≢◌, ◌⊎◌, Entry, Handle, InsertsOne, IsRegistry, RegistryState, ReleaseMode, ReleaseState, RemoveStep, handle_of, lock_after, release_state, with_left, First, IsService, PortDetails, Second, Service, Side, is_among, port_ids, port_of, port_value, role_at}
+use Rattle.service_conformance.proofs.Names.{Bool, List, Ok, [], ap, arith, length, refl, subst, sym, true, ℕ, ◌++◌, ◌||◌, ◌∙◌, ◌∷◌, ◌≡◌, inl, inr, map, ◌==◌, ◌≢◌, ◌⊎◌, Entry, Handle, InsertsOne, IsRegistry, RegistryState, ReleaseMode, ReleaseState, RemoveStep, handle_of, lock_after, release_state, with_left, First, IsService, PortDetails, Second, Service, Side, is_among, port_ids, port_of, port_value}
 use Rattle.iox2_container.proofs.Lists.{gains_later, length-InsertsOne}
 use Rattle.service_conformance.proofs.Registries.{kept_without}
 use Rattle.service_conformance.proofs.Looking.{by_cases, IsBetween, LosesIds, loses_between}
@@ -18,8 +18,7 @@ without_second : {T : Type 0} (a b c d : List (Entry T)) (x y : Entry T) → a +
     → WithoutSecond (a ++ x ∷ b) (c ++ d) x y
 without_second {T} [] b c d x y e = record {
   rest = x ∷ (c ++ d);
-  whole_has =
-      gains_later (c ++ d) b y x (record { before = c; after = d; old_is = refl; new_is = e });
+  whole_has = grind (arith, gains_later);
   rest_has = record { before = []; after = c ++ d; old_is = refl; new_is = refl };
 }
 without_second {T} (z ∷ a) b [] d x y e =
@@ -96,9 +95,7 @@ module _ {T : Type 0} (some : List (Entry T) → Bool) (test : Entry T → Bool)
     (each : (x : Entry T) (l : List (Entry T)) → some (x ∷ l) ≡ (test x || some l)) where
   in_put : (b a : List (Entry T)) (x : Entry T) → some (b ++ a) ≡ true → some (b ++ x ∷ a) ≡ true
   in_put [] a x e = by_cases _ (test x) (λ t. each x a ∙ rw t refl) (λ f. each x a ∙ rw f e)
-  in_put (y ∷ b) a x e =
-      by_cases _ (test y) (λ t. each y (b ++ x ∷ a) ∙ rw t refl)
-      (λ f. each y (b ++ x ∷ a) ∙ rw f (in_put b a x (rw f at (sym (each y (b ++ a)) ∙ e))))
+  in_put (y ∷ b) a x e = grind (arith, by_cases, in_put b a x)
 
   pub in_whole : (rest whole : List (Entry T)) (x : Entry T) → InsertsOne rest whole x
       → some rest ≡ true → some whole ≡ true
@@ -118,13 +115,7 @@ pub record Exchange (First Second : Service → Service → Type 0) (old mid new
 pub exchanged : {A B First Second : Service → Service → Type 0} {old mid new : Service}
     (w : Exchange A B old mid new) → Second old w.between → First w.between new
     → Exchange First Second old mid new
-exchanged w before after = record {
-  between = w.between;
-  before = before;
-  after = after;
-  first = w.first;
-  second = w.second;
-}
+exchanged w before after = grind arith
 
 -- what is put in one place leaves another as it is
 apart : (p q : Place) → p ≢ q → (s : Service) (n : RegistryState (Item p))
@@ -170,27 +161,10 @@ module _ (p q : Place) (differ : p ≢ q)
         b.left ∙ (ap (λ (x : Service). with_at q x m) a.left ∙ there.1) in
         record {
           between = with_at q s m;
-          before =
-              record {
-                registry = m;
-                step = subst (λ (r : RegistryState (Item q)). Two r m)
-                    (ap (registry_at q) a.left ∙ there.0) b.step;
-                whole = b.whole;
-                left = refl;
-              };
-          after =
-              record {
-                registry = n;
-                step = subst (λ (r : RegistryState (Item p)). One r n)
-                    (sym (apart q p back s m n).0) a.step;
-                whole = a.whole;
-                left = left;
-              };
-          first = subst (λ (x : Service). IsBetween s mid x) (sym b.left)
-              (subst (λ (x : Service). IsBetween s x (with_at q x m)) (sym a.left)
-              (stays_between p q differ s n m));
-          second = subst (λ (x : Service). IsBetween s (with_at q s m) x) (sym left)
-              (stays_between q p back s m n);
+          before = grind (arith, apart);
+          after = grind (arith, apart);
+          first = grind (arith, stays_between);
+          second = grind (arith, stays_between);
         }
 
 module _ (Nodes : RegistryState ℕ → RegistryState ℕ → Type 0)
@@ -222,11 +196,7 @@ module _ (One Two : RegistryState PortDetails → RegistryState PortDetails → 
       → ((r m : RegistryState PortDetails) → One r m → h.role ≡ r.role)
       → ((r m : RegistryState PortDetails) → Two r m → k.role ≡ r.role)
       → IsService s → IsService mid → h.role ≢ k.role → a.0 ≢ b.0
-  roles_apart h k one two i j differ e =
-      differ (one _ _ a.1.step ∙ ((ports_are s a.0 i).role_is
-      ∙ (ap (role_at s.pattern) e
-      ∙ (sym (ap (λ (x : Service). role_at x.pattern b.0) a.1.left)
-      ∙ sym (two _ _ b.1.step ∙ (ports_are mid b.0 j).role_is)))))
+  roles_apart h k one two i j differ e = grind (arith, ports_are)
 
 -- the entry of a handle is removed, with an answer that may be given, and others are left
 abbrev pub Removal : {T : Type 0} → Handle → ReleaseMode → (ReleaseState → Type 0)
@@ -258,11 +228,9 @@ loses : (p : Place) (s : Service) (n : RegistryState (Item p)) (x : Entry (Item 
 loses of_nodes s n x g part.Nodes id e =
     in_whole (λ (l : List (Entry ℕ)). is_among (map (λ x. x.details) l) id)
     (λ x. x.details == id) (λ x l. refl) n.entries s.nodes.registry.entries x g e
-loses of_nodes s n x g _ id e = e
 loses (of_ports First) s n x g part.First id e = port_lost s.ports.first.registry n x g id e
-loses (of_ports First) s n x g _ id e = e
 loses (of_ports Second) s n x g part.Second id e = port_lost s.ports.second.registry n x g id e
-loses (of_ports Second) s n x g _ id e = e
+loses _ s n x g _ id e = e
 
 -- of two removals from one place the second can be made first
 module _ (p : Place) (mode : ReleaseMode) (May : ReleaseState → Type 0) where
@@ -297,9 +265,7 @@ module _ (p : Place) (mode : ReleaseMode) (May : ReleaseState → Type 0) where
               (sym (there p s w.mid)) w.after,
         );
         whole = b.whole;
-        left = b.left
-            ∙ (ap (λ (v : Service). with_at p v m) a.left
-            ∙ (again p s n m ∙ sym (again p s w.mid m)));
+        left = grind (arith, again);
       } in
       record {
         between = x;
@@ -310,10 +276,7 @@ module _ (p : Place) (mode : ReleaseMode) (May : ReleaseState → Type 0) where
       }
 
 side_cases : (side other : Side) → (side ≡ other) ⊎ (side ≢ other)
-side_cases First First = inl refl
-side_cases First Second = inr (λ e. (cc))
-side_cases Second First = inr (λ e. (cc))
-side_cases Second Second = inl refl
+side_cases _ _ = grind arith
 
 pub ports_swap : (May : ReleaseState → Type 0) (mode : ReleaseMode) (h k : Handle)
     (s mid t : Service) → IsService s → TakesPorts (Removal h mode May) s mid

@@ -231,9 +231,7 @@ pub record Does (c : Call) (May : Handle → Type 0) (Fits : Service → Service
 -- a call leaves a service of which no touch is counted
 pub leaves_service : (c : Call) (old new : Service) → CallStep c old new
     → IsService new × (quiet new ≡ new)
-leaves_service c old new step =
-    let on = step.2.2 in
-    (subst IsService on.3 (service_quiet on.0 on.2), ap quiet (sym on.3) ∙ on.3)
+leaves_service c old new step = grind (arith, service_quiet)
 
 -- a call of this command, which names this handle, and has these words
 module _ (own : Command) (handle : Option Handle) (words : List ℕ) (May : Handle → Type 0)
@@ -252,12 +250,8 @@ module _ (own : Command) (handle : Option Handle) (words : List ℕ) (May : Hand
       let own_call : Call = record { command = own; handle = handle; words = Some words } in
       let is : own_call ≡ c = rw (← e, ← f, ← g) refl in
       subst (λ (c : Call). Does c May Fits Step) is (record {
-        there = λ old new step.
-            let on = step.2.2 in
-            let got = there step.2.0 step.2.1 old on.0 step.0 on.1 in
-            (got.0, got.1, subst (λ (x : Service). Step got.0 old x) on.3 got.2);
-        back = λ h may old new i rest a fits.
-            let r = back h may in (i, rest, (r.0, r.1, r.2 old new i a fits));
+        there = grind arith;
+        back = grind (arith, fits);
       })
 
 -- a reply with the words of a handle is that of one
@@ -271,9 +265,7 @@ gave r slot ticket e = cases (handle_in r) refl
 
 named_role : (role : Role) (k : ℕ) (o : Option Handle) (h : Handle) → named (o ∷ []) k ≡ Some h
     → ((x : Handle) × (o ≡ Some x) × (x.role ≡ role)) → h.role ≡ role
-named_role role zero o h e x =
-    let same : x.0 ≡ h = same_Some x.0 h (sym x.1 ∙ e) in
-    ap (λ (q : Handle). q.role) (sym same) ∙ x.2
+named_role role zero o h e x = grind (arith, same_Some)
 named_role role (suc k) o h e x =
     absurd (let z : ◌≡◌ {A = Option Handle} None (Some h) = e in cc)
 

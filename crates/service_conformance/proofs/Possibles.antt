@@ -24,34 +24,23 @@ pub alone : (s : Service) (Step : Reply → Service → Type 0) (one : LineReply
     → ((r : Reply) → IsSameReply (reply_in one) r ≡ (reply_in one ≡ r)) → Step (reply_in one) new
     → IsService new → ((r : Reply) (new : Service) → Step r new → reply_in one ≡ r)
     → ArePossible s Step (possible.One one)
-alone s Step one new plain step kept only = record {
-  can = λ r a. (new, subst (λ r. Step r new) (subst (λ (T : Type 0). T) (plain r) a) step, kept);
-  only = λ r new so k. subst (λ (T : Type 0). T) (sym (plain r)) (only r new so);
-}
+alone s Step one new plain step kept only = grind arith
 
 node_locked : (s : Service) (id : ℕ) → s.nodes.registry.locked ≡ true → (r : Reply) (new : Service)
     → ServesRegister s id r new → reply.Locked ≡ r
-node_locked s id l (reply.Handle h) new so = absurd (not_both s.nodes.registry.locked l so.0.step.0)
 node_locked s id l reply.Locked new so = refl
-node_locked s id l reply.Full new so = absurd (not_both s.nodes.registry.locked l so.0.step.0)
-node_locked s id l _ new so = absurd so
+node_locked s id l _ new so = grind (arith, not_both)
 
 node_full : (s : Service) (id : ℕ) → s.nodes.registry.locked ≡ false → IsFull s.nodes.registry
     → (r : Reply) (new : Service) → ServesRegister s id r new → reply.Full ≡ r
-node_full s id l full (reply.Handle h) new so = absurd (no_room s.nodes.registry full so.0.step.1)
-node_full s id l full reply.Locked new so = absurd (not_both s.nodes.registry.locked so.0.step.0 l)
 node_full s id l full reply.Full new so = refl
-node_full s id l full _ new so = absurd so
+node_full s id l full _ new so = grind (arith, not_both, no_room)
 
 node_given : (s : Service) (id : ℕ) → TakesEntry s.nodes.registry → (r : Reply) (new : Service)
     → ServesRegister s id r new → IsService new → Allows s (possible.Given part.Nodes) r
 node_given s id takes (reply.Handle h) new so k =
     (h, refl, was_given s.nodes.registry new.nodes.registry id h so.0.step so.0.kept)
-node_given s id takes reply.Locked new so k =
-    absurd (not_both s.nodes.registry.locked so.0.step.0 takes.0)
-node_given s id takes reply.Full new so k =
-    absurd (no_room s.nodes.registry so.0.step.1 takes.1)
-node_given s id takes _ new so k = absurd so
+node_given s id takes _ new so k = grind (arith, not_both, no_room)
 
 pub registers : (s : Service) (id : ℕ) (why : Option ContainerAddFailure) → IsService s
     → Refuses s.nodes.registry why
@@ -67,23 +56,14 @@ registers s id None i takes = record {
       );
   only = node_given s id takes;
 }
-registers s id (Some IsLocked) i l =
-    alone _ _ (line.Word word.Locked) s (λ r. refl)
-    (untouching _ s.nodes s.nodes.registry (l, refl) i.nodes_are, refl) i (node_locked s id l)
-registers s id (Some OutOfSpace) i (l, full) =
-    alone _ _ (line.Word word.Full) s (λ r. refl)
-    (untouching _ s.nodes s.nodes.registry (l, full, refl) i.nodes_are, refl) i
-    (node_full s id l full)
+registers s id (Some IsLocked) i l = grind (arith, alone, untouching, node_locked)
+registers s id (Some OutOfSpace) i (l, full) = grind (arith, alone, untouching, node_full)
 
 module _ (s : Service) (d : PortDetails) where
   locked_only : HasRole s.pattern (role_of d) → s.nodes.registry.locked ≡ true → (r : Reply)
       (new : Service) → ServesAdd s d r new → reply.Locked ≡ r
-  locked_only has l (reply.Handle h) new so = absurd (not_both s.nodes.registry.locked l so.1.0.0)
   locked_only has l reply.Locked new so = refl
-  locked_only has l reply.NotRegistered new so = absurd (not_both s.nodes.registry.locked l so.1.0)
-  locked_only has l reply.Full new so = absurd (not_both s.nodes.registry.locked l so.1.0.0)
-  locked_only has l reply.WrongPattern new so = absurd (lacks s.pattern (role_of d) so.0 has)
-  locked_only has l _ new so = absurd so
+  locked_only has l _ new so = grind (arith, not_both, lacks)
 
   pub locked : IsService s → HasRole s.pattern (role_of d) → s.nodes.registry.locked ≡ true
       → ArePossible s (ServesAdd s d) (possible.One (line.Word word.Locked))
@@ -93,21 +73,13 @@ module _ (s : Service) (d : PortDetails) where
   unregistered_only : HasRole s.pattern (role_of d) → s.nodes.registry.locked ≡ false
       → entries_of_node (node_of d) s.nodes.registry ≡ 0 → (r : Reply) (new : Service)
       → ServesAdd s d r new → reply.NotRegistered ≡ r
-  unregistered_only has l n (reply.Handle h) new so = absurd (omega (arith, n, so.1.0.1))
-  unregistered_only has l n reply.Locked new so =
-      absurd (not_both s.nodes.registry.locked so.1.0 l)
   unregistered_only has l n reply.NotRegistered new so = refl
-  unregistered_only has l n reply.Full new so = absurd (omega (arith, n, so.1.0.1))
-  unregistered_only has l n reply.WrongPattern new so =
-      absurd (lacks s.pattern (role_of d) so.0 has)
-  unregistered_only has l n _ new so = absurd so
+  unregistered_only has l n _ new so = grind (arith, not_both, lacks)
 
   pub unregistered : IsService s → HasRole s.pattern (role_of d)
       → s.nodes.registry.locked ≡ false → entries_of_node (node_of d) s.nodes.registry ≡ 0
       → ArePossible s (ServesAdd s d) (possible.One (line.Word word.NotRegistered))
-  unregistered i has l n =
-      alone _ _ (line.Word word.NotRegistered) s (λ r. refl) (has, (l, n, refl)) i
-      (unregistered_only has l n)
+  unregistered i has l n = grind (arith, alone, unregistered_only)
 
   module _ (side : Side) (role : role_of d ≡ role_at s.pattern side)
       (opens : IsOpenFor s (node_of d)) where
@@ -140,9 +112,7 @@ module _ (s : Service) (d : PortDetails) where
     given_only takes reply.Locked new so k =
         absurd (not_both s.nodes.registry.locked so.1.0 opens.0)
     given_only takes reply.NotRegistered new so k = absurd (omega (arith, opens.1, so.1.1))
-    given_only takes reply.Full new so k =
-        absurd (no_room (ports_at s side).registry
-        (adds_at (Err OutOfSpace) new so.1.1).step.1 takes.1)
+    given_only takes reply.Full new so k = grind (arith, no_room, adds_at)
     given_only takes reply.WrongPattern new so k =
         absurd (lacks s.pattern (role_of d) so.0 (has_role s.pattern side (role_of d) role))
     given_only takes _ new so k = absurd so
@@ -170,16 +140,7 @@ module _ (s : Service) (d : PortDetails) where
     attaches (Some IsLocked) i l =
         absurd (not_both (ports_at s side).registry.locked l (ports_are s side i).is_open)
     attaches (Some OutOfSpace) i (l, full) =
-        let old = ports_at s side in
-        let ports = with_ports_at side s.ports old in
-        let adds =
-        steps_at s.pattern side s.ports (role_of d) (λ o n. Adds o d (Err OutOfSpace) n) old role
-        (untouching _ old old.registry (l, full, refl) (ports_are s side i).is_registry) in
-        alone _ _ (line.Word word.Full) (record s { ports = ports }) (λ r. refl)
-        (has_role s.pattern side (role_of d) role, (opens, (adds, refl)))
-        (attach_kept s (record s { ports = ports }) d (Err refusal.OutOfSpace)
-        (opens, (adds, refl)) i)
-        (full_only full)
+        grind (arith, steps_at, untouching, ports_are, alone, has_role, attach_kept, full_only)
 
 -- the entry of a handle is one
 pub one_details : {T : Type 0} (r : RegistryState T) (h : Handle) (a b : T) → IsRegistry r
@@ -193,9 +154,7 @@ one_details {T} r h a b k m n =
 -- what has an entry is not locked
 pub was_open : {T : Type 0} (r : RegistryState T) (n : ℕ) → IsRegistry r → length r.entries ≡ n + 1
     → r.locked ≡ false
-was_open r n k e =
-    false_from_ne_true r.locked (λ t.
-    (let z : length r.entries ≡ 0 = ap length (k.locked_is_empty t) in omega arith))
+was_open r n k e = grind (arith, false_from_ne_true)
 
 last_locks : (before left : ℕ) (locked : Bool) → before ≡ left + 1 → locked ≡ false
     → lock_after LockIfLastIndex before left locked ≡ nat_eq before 1
@@ -255,9 +214,7 @@ module _ (s : Service) (h : Handle) where
 
     pub attached : is_last_of_ports id s ≡ true
         → ArePossible s (ServesDeregister s (Some h)) (possible.One (line.Word word.PortsAttached))
-    attached l =
-        alone _ _ (line.Word word.PortsAttached) s (λ r. refl) (id, has, l, refl) i
-        (attached_only l)
+    attached l = grind (arith, alone, attached_only)
 
     -- the answer is by the lock
     answered : (n : DeregisterNodeState) (new : RegistryState ℕ)
@@ -328,16 +285,7 @@ module _ (s : Service) (h : Handle) where
     pub unreleased : IsService s → IsUnknownHandle (ports_at s side).registry h
         → ArePossible s (ServesRelease s (Some h)) (possible.One (line.Word word.NotOwned))
     unreleased i u =
-        let old = ports_at s side in
-        let ports = with_ports_at side s.ports old in
-        let answer : Result ReleaseState ContainerRemoveError =
-        Err ContainerHandleNotOwnedByContainer in
-        let removes : RemovesFrom (first_role s.pattern)
-        (second_role s.pattern) s.ports h answer ports =
-        inl (steps_at s.pattern side s.ports h.role (λ o n. Removes o h Default answer n) old role
-        (untouching _ old old.registry (u, refl) (ports_are s side i).is_registry)) in
-        alone _ _ (line.Word word.NotOwned) (record s { ports = ports }) (λ r. refl) (removes, refl)
-        (release_kept s s.pattern ports h answer refl removes i) (unreleased_only u)
+        grind (arith, steps_at, untouching, ports_are, alone, release_kept, unreleased_only)
 
     module _ (d : PortDetails) (has : HasEntry (ports_at s side).registry h d) where
       released_only : (r : Reply) (new : Service) → ServesRelease s (Some h) r new

@@ -1,5 +1,5 @@
 -- Steps do not depend on how often slots were touched.
-use Rattle.service_conformance.proofs.Names.{Bool, Err, List, None, Ok, Option, Result, Some, [], ap, arith, false, inl, inr, true, ℕ, ◌∷◌, ◌≡◌, AddStep, AddsPort, Changes, Cleans, Cleanup, Command, ContainerAddFailure, ContainerRemoveError, ContainerState, DeadStep, Default, DeregisterNodeState, Description, First, Handle, IsRegistry, IsService, NodesAfter, OnSide, PortCleanupAction, PortDetails, Ports, RegistryState, ReleaseState, RemoveStep, RemovesPort, Reply, Role, Run, Second, Serves, ServesAdd, ServesDead, ServesDeregister, ServesRegister, ServesRelease, Service, ServiceStep, Side, State, UniquePortId, container, first_role, has_ports_of, named, of_side, other_side, ports_at_rest, quiet, quiet_state, role_of, second_role, state_of, untouched}
+use Rattle.service_conformance.proofs.Names.{Bool, List, None, Option, Result, Some, [], ap, arith, inl, inr, ℕ, ◌∷◌, ◌≡◌, AddsPort, Changes, Cleans, Cleanup, Command, ContainerAddFailure, ContainerRemoveError, ContainerState, DeadStep, DeregisterNodeState, Description, First, Handle, IsRegistry, IsService, NodesAfter, OnSide, PortCleanupAction, PortDetails, Ports, RegistryState, ReleaseState, RemovesPort, Reply, Role, Run, Second, Serves, ServesAdd, ServesDead, ServesDeregister, ServesRegister, ServesRelease, Service, ServiceStep, Side, State, UniquePortId, container, named, of_side, other_side, ports_at_rest, quiet, quiet_state, untouched}
 use Rattle.iox2_container.specs.declared.container.registry.ContainerAddFailure.TheVariants as container
 use Rattle.iox2_container.specs.declared.container.registry.ContainerRemoveError.TheVariants as remove
 use Rattle.iox2_dynamic.specs.declared.dynamic_config.answers.DeregisterNodeState.TheVariants as nodes
@@ -45,77 +45,40 @@ module _ (Step : RegistryState PortDetails → RegistryState PortDetails → Typ
 module _ (old new : Service) where
   registers : (id : ℕ) (r : Reply) → ServesRegister old id r new
       → ServesRegister (quiet old) id r (quiet new)
-  registers id (reply.Handle h) s = (changes _ old.nodes new.nodes s.0, ap quiet s.1)
-  registers id reply.Locked s = (changes _ old.nodes new.nodes s.0, ap quiet s.1)
-  registers id reply.Full s = (changes _ old.nodes new.nodes s.0, ap quiet s.1)
-  registers id _ s = absurd s
+  registers id _ s = grind (arith, changes)
 
   deregisters : (handle : Option Handle) (r : Reply) → ServesDeregister old handle r new
       → ServesDeregister (quiet old) handle r (quiet new)
-  deregisters None reply.NoHandle s = ap quiet s
-  deregisters (Some h) reply.HasOwners s =
-      (s.0, s.1, s.2, changes _ _ _ s.3, ap quiet s.4)
-  deregisters (Some h) reply.NoMoreOwners s =
-      (s.0, s.1, s.2, changes _ _ _ s.3, ap quiet s.4)
-  deregisters (Some h) reply.PortsAttached s = (s.0, s.1, s.2, ap quiet s.3)
-  deregisters (Some h) reply.NotOwned s = (s.0, ap quiet s.1)
-  deregisters _ _ s = absurd s
+  deregisters None _ s = grind arith
+  deregisters (Some h) _ s = grind (arith, changes)
 
   adds_port : (d : PortDetails) (answer : Result Handle ContainerAddFailure)
       → AddsPort old d answer new → AddsPort (quiet old) d answer (quiet new)
-  adds_port d answer s = (
-    on_side (λ r s. AddStep r d answer s) (first_role old.pattern)
-        (second_role old.pattern) old.ports
-        new.ports (role_of d) s.0,
-    ap quiet s.1,
-  )
+  adds_port d answer s = grind (arith, on_side)
 
   adds : (d : PortDetails) (r : Reply) → ServesAdd old d r new
       → ServesAdd (quiet old) d r (quiet new)
-  adds d (reply.Handle h) s = (s.0, (s.1.0, adds_port d (Ok h) s.1.1))
-  adds d reply.Locked s = (s.0, (s.1.0, ap quiet s.1.1))
-  adds d reply.NotRegistered s = (s.0, (s.1.0, s.1.1, ap quiet s.1.2))
-  adds d reply.Full s = (s.0, (s.1.0, adds_port d (Err container.OutOfSpace) s.1.1))
-  adds d reply.WrongPattern s = (s.0, ap quiet s.1)
-  adds d _ s = absurd s
+  adds d _ s = grind (arith, adds_port)
 
   removes_port : (h : Handle) (answer : Result ReleaseState ContainerRemoveError)
       → RemovesPort old h answer new → RemovesPort (quiet old) h answer (quiet new)
-  removes_port h answer (inl a, e) = (
-    inl (on_side (λ r s. RemoveStep r h Default answer s) (first_role old.pattern)
-        (second_role old.pattern) old.ports new.ports h.role a),
-    ap quiet e,
-  )
+  removes_port h answer (inl a, e) = grind (arith, on_side)
   removes_port h answer (inr a, e) = (inr (a.0, a.1, ap quiet_ports a.2), ap quiet e)
 
   releases : (handle : Option Handle) (r : Reply) → ServesRelease old handle r new
       → ServesRelease (quiet old) handle r (quiet new)
-  releases None reply.NoHandle s = ap quiet s
-  releases (Some h) reply.Released s = (s.0, removes_port h (Ok s.0) s.1)
-  releases (Some h) reply.NotOwned s =
-      removes_port h (Err remove.ContainerHandleNotOwnedByContainer) s
-  releases _ _ s = absurd s
+  releases None _ s = grind arith
+  releases (Some h) _ s = grind (arith, removes_port)
 
   nodes_after : (dead : ℕ) (left : Bool) (state : ReleaseState)
       → NodesAfter dead left old.nodes state new.nodes
       → NodesAfter dead left (untouched old.nodes.registry) state (untouched new.nodes.registry)
-  nodes_after dead true state s = (s.0, ap (λ (c : ContainerState ℕ). untouched c.registry) s.1)
-  nodes_after dead false state s = changes _ old.nodes new.nodes s
+  nodes_after dead left state s = grind (arith, changes)
 
   dies : {F : Type 0} (calls : F → UniquePortId → PortCleanupAction → F → Type 0) (f : F) (dead : ℕ)
       (answer : DeregisterNodeState) (h : F) → DeadStep calls old f dead answer new h
       → DeadStep calls (quiet old) f dead answer (quiet new) h
-  dies calls f dead answer h s =
-      let p = s.ports in
-      record {
-        ports = (
-          p.0,
-          (p.1.0, changes _ old.ports.first new.ports.first p.1.1),
-          (p.2.0, changes _ old.ports.second new.ports.second p.2.1),
-        );
-        nodes = nodes_after dead (has_ports_of dead new.ports) (state_of answer) s.nodes;
-        others = ap quiet s.others;
-      }
+  dies calls f dead answer h s = grind (arith, changes, nodes_after)
 
   cleans : (dead : ℕ) (cleanup : Cleanup) (r : Reply) → ServesDead old dead cleanup r new
       → ServesDead (quiet old) dead cleanup r (quiet new)
@@ -131,33 +94,17 @@ pub serves_quiet : (old : Service) (about : Option Description) (handles : List 
 serves_quiet old about handles (command.Register id) r new s = registers old new id r s
 serves_quiet old about handles (command.Deregister k) r new s =
     deregisters old new (named handles k) r s
-serves_quiet old about handles command.Nodes (reply.Nodes ids) new s = (s.0, ap quiet s.1)
-serves_quiet old about handles command.Nodes _ new s = absurd s.0
 serves_quiet old about handles (command.Add d) r new s = adds old new d r s
 serves_quiet old about handles (command.Release k) r new s = releases old new (named handles k) r s
-serves_quiet old about handles (command.List role) (reply.Ports ports) new s = (s.0, ap quiet s.1)
-serves_quiet old about handles (command.List role) reply.WrongPattern new s = (s.0, ap quiet s.1)
-serves_quiet old about handles (command.List role) _ new s = absurd s.0
-serves_quiet old about handles (command.Count role) (reply.Count n) new s = (s.0, ap quiet s.1)
-serves_quiet old about handles (command.Count role) reply.WrongPattern new s = (s.0, ap quiet s.1)
-serves_quiet old about handles (command.Count role) _ new s = absurd s.0
 serves_quiet old about handles (command.Dead dead cleanup) r new s = cleans old new dead cleanup r s
-serves_quiet old about handles _ r new s = (s.0, ap quiet s.1)
+serves_quiet old about handles _ _ new s = grind arith
 
 pub service_quiet : (s : Service) → IsService s → IsService (quiet s)
-service_quiet s i = record {
-  nodes_are = i.nodes_are;
-  role_is = i.role_is;
-  ports_are = record { first = i.ports_are.first; second = i.ports_are.second };
-}
+service_quiet s i = grind arith
 
 pub step_quiet : (old new : State) (c : Command) (r : Reply) → ServiceStep old c r new
     → ServiceStep (quiet_state old) c r (quiet_state new)
-step_quiet old new c r s = (
-  serves_quiet old.service old.description old.handles c r new.service s.0,
-  ap quiet_state s.1,
-  record { is_service = service_quiet new.service s.2.is_service; differ = s.2.differ },
-)
+step_quiet old new c r s = grind (arith, serves_quiet, service_quiet)
 
 -- a run of quiet states goes along with each run
 pub run_quiet : (old new : State) (commands : List Command) (replies : List Reply)

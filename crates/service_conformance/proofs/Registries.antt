@@ -1,5 +1,5 @@
 -- Registries: lists of entries by rising slot, adds that take a given slot, and removals.
-use Rattle.service_conformance.proofs.Names.{All, All-head, All-tail, AllPairs, AllPairs-cons, Err, HoldsAt, IfNone, IfSome, IsBinarySearchResult, IsSearchInRange, List, MatchOption, None, Ok, Option, Result, Some, [], ap, arith, cases_lt, get_or, get_or-drop, get_or-take, inl, inr, length, length-drop, length-take, nat_cmp, nat_tests, ordering_index, ranked, result_err, slice_get_cases, subst, sym, ℕ, ◌++◌, ◌+◌, ◌<◌, ◌∷◌, ◌≡◌, ◌≢◌, ◌≤◌, false_from_ne_true, if◌then◌else◌, lt-ltb, ltb-true, nat_lt, refl, ◌∙◌, Entry, HasAt, IsAt, IsFreePosition, InsertsOne, All-append, All-cons, All-nil, All-weaker, cases_order, drop, insert, suc, take, take-append-drop, AddStep, ContainerAddFailure, Handle, HasRoom, IsFull, IsLocked, IsRegistry, MayGive, OutOfSpace, RegistryState, TakesEntry, handle_of, slot_entry, Bool, get_or_from_slice_get, remove, slice_get_within, split_at, HasEntry, ReleaseMode, ReleaseState, RemoveStep, StandsAt, lock_after, release_state, with_left, slice_get, All-filter, AllPairs-filter, false, filter, length-filter_both, list_any, not, true, ◌&&◌, ◌||◌, PortDetails, candidates, goes, has_ports_of, is_kept, is_of, node_of, stays, without_ports, ports_at_rest}
+use Rattle.service_conformance.proofs.Names.{All, All-head, All-tail, AllPairs, AllPairs-cons, Err, HoldsAt, IfNone, IfSome, IsBinarySearchResult, IsSearchInRange, List, MatchOption, None, Ok, Option, Result, Some, [], ap, arith, cases_lt, get_or, get_or-drop, get_or-take, inl, inr, length, length-drop, length-take, nat_cmp, nat_tests, ordering_index, ranked, result_err, slice_get_cases, subst, sym, ℕ, ◌++◌, ◌+◌, ◌<◌, ◌∷◌, ◌≡◌, ◌≢◌, ◌≤◌, false_from_ne_true, if◌then◌else◌, lt-ltb, ltb-true, nat_lt, refl, ◌∙◌, Entry, HasAt, IsAt, IsFreePosition, InsertsOne, All-append, All-cons, All-nil, All-weaker, cases_order, drop, insert, suc, take, take-append-drop, AddStep, ContainerAddFailure, Handle, HasRoom, IsFull, IsLocked, IsRegistry, MayGive, OutOfSpace, RegistryState, TakesEntry, handle_of, slot_entry, Bool, get_or_from_slice_get, remove, slice_get_within, split_at, HasEntry, ReleaseMode, ReleaseState, RemoveStep, StandsAt, lock_after, release_state, with_left, slice_get, All-filter, AllPairs-filter, false, filter, length-filter_both, list_any, not, true, ◌&&◌, ◌||◌, PortDetails, candidates, goes, has_ports_of, is_of, node_of, stays, without_ports, ports_at_rest}
 use Rattle.iox2_container.proofs.Lists.{AllPairs-head, AllPairs-tail, All-back, All-put, length-InsertsOne}
 use Rattle.iox2_container.proofs.Keeping.{kept_add, All-gain, kept_remove, All-loss, nothing_left, locks_empty}
 
@@ -49,10 +49,7 @@ module _ {T : Type 0} (es : List (Entry T)) (rises : Rise es) (slot : ℕ) where
   orders_rise : (i j : ℕ) (d : Entry T) → i ≤ j → j < length es
       → ordering_index (nat_cmp (get_or es i d).slot slot)
       ≤ ordering_index (nat_cmp (get_or es j d).slot slot)
-  orders_rise i j d le h = elim (cases_lt i j) [
-    | inl less ↦ (let r = rises i j d less h in grind (arith, nat_tests))
-    | inr more ↦ (let e : i ≡ j = omega arith in rw e (omega arith))
-  ]
+  orders_rise i j d le h = grind (arith, cases_lt, nat_tests)
 
   -- what a binary search for the slot finds
   pub searched : (found : Result ℕ ℕ) (position : Option ℕ) → position ≡ result_err found
@@ -202,15 +199,7 @@ given {T} r details handle position k takes m there =
 -- a free slot has a position
 position_for : {T : Type 0} (es : List (Entry T)) (slot : ℕ) → Rise es → All (λ e. e.slot ≢ slot) es
     → (position : ℕ) × IsFreePosition es slot position
-position_for [] slot rises free = (
-  0,
-  record {
-    within = omega arith;
-    below = All-nil (λ e. e.slot < slot);
-    above = All-nil
-        (λ e. slot < e.slot);
-  },
-)
+position_for [] slot rises free = grind (arith, All-nil)
 position_for {T} (e ∷ es) slot rises free =
     let R : Entry T → Entry T → Type 0 = λ v w. v.slot < w.slot in
     let rest = position_for es slot (AllPairs-tail R e es rises)
@@ -261,9 +250,7 @@ with_entry_is s r position handle details l e m i = rw (i, e, m.ticket) refl
 
 pub not_free : {T : Type 0} (r : RegistryState T) (es : List (Entry T)) (slot : ℕ) → es ≡ r.entries
     → (All (λ e. e.slot ≢ slot) es → ⊥) → (h : Handle) → h.slot ≡ slot → MayGive r h → ⊥
-not_free {T} r es slot same n h e m =
-    n (subst (λ (l : List (Entry T)). All (λ e. e.slot ≢ slot) l) (sym same)
-    (subst (λ k. All (λ (e : Entry T). e.slot ≢ k) r.entries) e m.free))
+not_free {T} r es slot same n h e m = grind arith
 
 pub free_in : {T : Type 0} (r : RegistryState T) (es : List (Entry T)) (slot k position : ℕ)
     → es ≡ r.entries
@@ -390,10 +377,7 @@ kept_filter {T} r mode p k = record {
       (λ (a b : Entry T). a.ticket ≢ b.ticket) p r.entries k.tickets_differ;
   tickets_used = All-filter p (λ (e : Entry T). e.ticket < r.used) r.entries k.tickets_used;
   budget_kept = k.budget_kept;
-  locked_is_empty = λ t. nothing_left (filter p r.entries)
-      (locks_empty mode (length r.entries) (length (filter p r.entries)) r.locked t
-      (λ l. ap length (k.locked_is_empty l))
-      (omega (arith, length-filter_both p (λ e. not (p e)) (λ e. refl) r.entries)));
+  locked_is_empty = grind (arith, nothing_left, locks_empty, length-filter_both);
 }
 
 -- one port more, by whether it is one of the dead node and whether it is kept
@@ -402,14 +386,9 @@ left_more : (b k : Bool) (e : Entry PortDetails) (left : List (Entry PortDetails
     → any ≡ nat_lt 0 (length (filter is_dead left))
     → ((b && k) || any)
     ≡ nat_lt 0 (length (filter is_dead (if not (b && not k) then e ∷ left else left)))
-left_more true true e left any is_dead is rest =
-    sym (ap (λ b. nat_lt 0 (length (if b then e ∷ filter is_dead left else filter is_dead left)))
-    is ∙ lt-ltb 0 (length (e ∷ filter is_dead left)) (omega arith))
+left_more true true e left any is_dead is rest = grind (arith, lt-ltb)
 left_more true false e left any is_dead is rest = rest
-left_more false k e left any is_dead is rest =
-    rest
-    ∙ sym (ap (λ b. nat_lt 0 (length (if b then e ∷ filter is_dead left else filter is_dead left)))
-    is)
+left_more false k e left any is_dead is rest = grind arith
 
 -- a port of the dead node is left where one of them stays
 stays_left : (dead : ℕ) (kept : List ℕ) (es : List (Entry PortDetails))
@@ -417,10 +396,7 @@ stays_left : (dead : ℕ) (kept : List ℕ) (es : List (Entry PortDetails))
     ≡ nat_lt 0 (length (candidates (is_of node_of dead)
     (filter (λ e. not (goes dead kept e.details)) es)))
 stays_left dead kept [] = refl
-stays_left dead kept (e ∷ es) =
-    left_more (is_of node_of dead e.details) (is_kept kept e.details) e
-    (filter (λ e. not (goes dead kept e.details)) es) (list_any (λ e. stays dead kept e.details) es)
-    (λ e. is_of node_of dead e.details) refl (stays_left dead kept es)
+stays_left dead kept (e ∷ es) = grind (arith, left_more, stays_left dead kept es)
 
 -- the same of both kinds of ports
 pub some_left : (dead : ℕ) (kept : List ℕ) (first second : RegistryState PortDetails)

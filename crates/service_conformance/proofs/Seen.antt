@@ -1,5 +1,5 @@
 -- What the words of replies say.
-use Rattle.service_conformance.proofs.Names.{All-cons, All-head, All-map, All-nil, All-tail, Bool, List, None, Option, Some, [], ap, append-nil, append_cancel_left, arith, codes, cond, decimal, decimal_injective, false, flat_map, get_or, get_or-map, length, length-map, map, refl, subst, suc, sym, true, ℕ, ◌++◌, ◌+◌, ◌<◌, ◌^◌, ◌↔◌, ◌∙◌, ◌∷◌, ◌≡◌, ◌≢◌, ◌≤◌, nil_from_length, same_Some, drop, length-drop, Bytes, EndsNumber, EndsWord, Handle, IsId, IsToLine, OthersFit, PortDetails, Reads, Reply, ReplyWord, SeenReply, Spelling, after, apart, changes_nothing, cons_same, count_words, handle_in, handle_words, has_no_space, hexadecimal, id_word, is_removal, line_end, list_words, listed_one, number, others_text, port_of, port_value, port_word, printed_id, printed_one, reply_named, same_id, seen_text, sequence, text_of, word_text}
+use Rattle.service_conformance.proofs.Names.{All-cons, All-head, All-map, All-nil, All-tail, Bool, List, None, Some, [], ap, append-nil, append_cancel_left, arith, codes, cond, decimal, decimal_injective, false, flat_map, get_or, get_or-map, length, length-map, map, refl, sym, true, ℕ, ◌++◌, ◌+◌, ◌<◌, ◌^◌, ◌↔◌, ◌∙◌, ◌∷◌, ◌≡◌, ◌≢◌, ◌≤◌, nil_from_length, same_Some, drop, length-drop, Bytes, EndsNumber, EndsWord, Handle, IsId, IsToLine, OthersFit, PortDetails, Reads, Reply, ReplyWord, SeenReply, Spelling, after, apart, changes_nothing, cons_same, count_words, handle_in, handle_words, has_no_space, hexadecimal, id_word, is_removal, line_end, list_words, listed_one, number, others_text, port_of, port_value, port_word, printed_id, printed_one, reply_named, same_id, seen_text, sequence, text_of, word_text}
 use Rattle.std.proofs.Common.{drop-cons, All, ◌==◌}
 use Rattle.line_streams.specs.Spelling.{listed}
 use Rattle.service_descriptions.specs.declared.replay.machine.reply.Reply.TheVariants as reply
@@ -64,13 +64,7 @@ module _ (words rest : List ℕ) (follows : words ≡ codes "list" ++ rest) wher
         ∙ sym (listed_is others)))).1
 
     pub ids_found : length left ≡ 0 → (list_words ids ≡ words) × All IsId ids
-    ids_found none = let end = nil_from_length left none in (
-      ap (λ (l : List ℕ). codes "list" ++ l)
-          (ap (flat_map id_word) (sym same) ∙ (sym (listed_is found)
-          ∙ (ap (λ (l : List ℕ). ids_phrase.text (found, l)) (sym end) ∙ sym read.1)))
-          ∙ sym follows,
-      subst (All IsId) same (listed_small found left read.0),
-    )
+    ids_found none = grind (arith, nil_from_length, listed_is, listed_small)
 
 -- where the phrase of a count is not read, no number has the words
 abbrev pub count_phrase : Spelling (ℕ × Unit {0})
@@ -97,11 +91,7 @@ port_words (d ∷ ds) = ap (λ (l : List ℕ). port_word d ++ l) (port_words ds)
 pub ports_list : (ds : List PortDetails) (ids : List ℕ)
     → (flat_map id_word (map value_of ds) ≡ flat_map id_word ids)
     ↔ (codes "list" ++ flat_map port_word ds ≡ list_words ids)
-ports_list ds ids = (
-  λ e. ap (λ (l : List ℕ). codes "list" ++ l) (port_words ds ∙ e),
-  λ e. sym (port_words ds)
-      ∙ append_cancel_left (codes "list") (flat_map port_word ds) (flat_map id_word ids) e,
-)
+ports_list ds ids = grind (arith, port_words, append_cancel_left)
 
 -- words that are none of these are those of no reply
 module _ (words : List ℕ)
@@ -193,23 +183,17 @@ is_named r w e =
     sym (by_its_kind r) ∙ ap (by_kind r) (sym (of_reply r) ∙ (ap by_text e ∙ of_word w))
 
 gives_none : (r : Reply) → handle_in r ≡ None → kind_of r ≡ handle_kind → ⊥
-gives_none (reply.Handle h) e k =
-    absurd (let z : ◌≡◌ {A = Option Handle} (Some h) None = e in cc)
-gives_none _ e k = absurd (cc)
+gives_none _ e k = grind arith
 
 pub no_handle_text : (r : Reply) → handle_in r ≡ None → (slot ticket : ℕ)
     → text_of r ≢ handle_words slot ticket
 no_handle_text r none slot ticket e = gives_none r none (sym (of_reply r) ∙ ap by_text e)
 
 pub is_handle : (r : Reply) (h : Handle) → handle_in r ≡ Some h → r ≡ reply.Handle h
-is_handle (reply.Handle k) h e = ap reply.Handle (same_Some k h e)
-is_handle _ h e = absurd (let z : ◌≡◌ {A = Option Handle} None (Some h) = e in cc)
+is_handle _ h e = grind (arith, same_Some)
 
 pub same_count : (m n : ℕ) → m < 2 ^ 64 → n < 2 ^ 64 → (m ≡ n) ↔ (count_words m ≡ count_words n)
-same_count m n p q = (
-  ap count_words,
-  λ e. decimal_injective m n p q (append_cancel_left (codes "count ") (decimal m) (decimal n) e),
-)
+same_count m n p q = grind (arith, decimal_injective, append_cancel_left)
 
 space_first : (ids : List ℕ) → EndsWord (flat_map id_word ids)
 space_first [] = refl
@@ -225,9 +209,7 @@ both_end (x ∷ xs) (y ∷ ys) end = absurd (end (omega arith) (omega arith))
 
 next_at : (ids : List ℕ) (i : ℕ) → i < length ids
     → drop i ids ≡ get_or ids i 0 ∷ drop (i + 1) ids
-next_at ids i h =
-    let next : suc i ≡ i + 1 = omega arith in
-    subst (λ k. drop i ids ≡ get_or ids i 0 ∷ drop k ids) next (drop-cons ids i 0 h)
+next_at ids i h = grind (arith, drop-cons)
 
 -- the ids of items, and others, from an index on
 module _ {A : Type 0} (id : A → ℕ) (xs : List A) (ids : List ℕ) (i : ℕ) where
@@ -238,10 +220,7 @@ module _ {A : Type 0} (id : A → ℕ) (xs : List A) (ids : List ℕ) (i : ℕ) 
   module _ (p : i < length xs) (q : i < length ids) (x : A) (is : x ≡ get_or xs i x) (value : ℕ)
       (has : value ≡ id x) where
     item_next : drop i (map id xs) ≡ value ∷ drop (i + 1) (map id xs)
-    item_next =
-        next_at (map id xs) i (rw (length-map xs id) p)
-        ∙ ap (λ v. v ∷ drop (i + 1) (map id xs))
-        (get_or-map id xs i x 0 p ∙ (ap id (sym is) ∙ sym has))
+    item_next = grind (arith, next_at, length-map, get_or-map)
 
     pub ids_differ : IsId value → IsId (get_or ids i 0) → (value ≡ get_or ids i 0 → ⊥) → ¬ AreAlike
     ids_differ small other never e =
@@ -253,16 +232,7 @@ module _ {A : Type 0} (id : A → ℕ) (xs : List A) (ids : List ℕ) (i : ℕ) 
 
     pub ids_go_on : value ≡ get_or ids i 0 → AreAlike
         ↔ (flat_map id_word (drop (i + 1) (map id xs)) ≡ flat_map id_word (drop (i + 1) ids))
-    ids_go_on e =
-        let here : flat_map id_word (drop i (map id xs))
-        ≡ id_word value ++ flat_map id_word (drop (i + 1) (map id xs)) =
-        ap (flat_map id_word) item_next in
-        let there : flat_map id_word (drop i ids)
-        ≡ id_word value ++ flat_map id_word (drop (i + 1) ids) =
-        ap (flat_map id_word) (next_at ids i q ∙ ap (λ v. v ∷ drop (i + 1) ids) (sym e)) in (
-          λ same. append_cancel_left (id_word value) _ _ (sym here ∙ (same ∙ there)),
-          λ same. here ∙ (ap (λ (l : List ℕ). id_word value ++ l) same ∙ sym there),
-        )
+    ids_go_on e = grind (arith, item_next, next_at, append_cancel_left)
 
   pub ids_end : i ≤ length xs → i ≤ length ids → (i < length xs → i < length ids → ⊥)
       → (length xs ≡ length ids) ↔ AreAlike
@@ -284,18 +254,11 @@ says_change (word_kind w) = is_removal (reply_named w)
 says_change other_kind = false
 
 of_seen : (s : SeenReply) → changes_nothing s ≡ true → says_change (by_text (seen_text s)) ≡ false
-of_seen (seen.Handle slot ticket) e = absurd (let z : false ≡ true = e in cc)
-of_seen (seen.Word word.HasOwners) e = absurd (let z : false ≡ true = e in cc)
-of_seen (seen.Word word.NoMoreOwners) e = absurd (let z : false ≡ true = e in cc)
-of_seen (seen.Word word.Released) e = absurd (let z : false ≡ true = e in cc)
-of_seen (seen.Word _) e = refl
-of_seen (seen.List ids) e = refl
-of_seen (seen.Count n) e = refl
+of_seen _ e = grind arith
 
 no_change : (r : Reply) → says_change (kind_of r) ≡ false
     → (handle_in r ≡ None) × (is_removal r ≡ false)
-no_change (reply.Handle h) e = absurd (let z : true ≡ false = e in cc)
-no_change _ e = (refl, e)
+no_change _ e = grind arith
 
 -- a reply with words that tell that nothing changed gives no handle and is of no removal
 pub reported_nothing : (r : Reply) (s : SeenReply) → changes_nothing s ≡ true

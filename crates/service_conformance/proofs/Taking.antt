@@ -1,5 +1,5 @@
 -- The two registries of ports, and steps of a service, by the registry that takes them.
-use Rattle.service_conformance.proofs.Names.{ap, subst, ℕ, ◌∙◌, ◌≡◌, Changes, ContainerState, First, IsRegistry, OnSide, PortDetails, RegistryState, Role, Second, Service, Side, at_rest, first_role, of_side, other_side, ports_at, quiet, role_at, second_role, arith, inl, inr, refl, suc, sym, zero, ◌<◌, Handle, IsEither, IsNeither, IsPortRegistry, IsService, MayGive, MayGiveIn, PatternKind, Ports, part_at, with_ports_at}
+use Rattle.service_conformance.proofs.Names.{ap, ℕ, ◌≡◌, Changes, ContainerState, First, IsRegistry, OnSide, PortDetails, RegistryState, Role, Second, Service, Side, at_rest, first_role, of_side, other_side, ports_at, quiet, role_at, second_role, arith, inl, inr, refl, suc, zero, ◌<◌, Handle, IsEither, IsNeither, IsPortRegistry, IsService, MayGive, MayGiveIn, PatternKind, Ports, part_at, with_ports_at}
 use Rattle.iox2_dynamic.proofs.Rooms.{roles_differ}
 
 pub positive : (n : ℕ) → (n ≡ 0 → ⊥) → 0 < n
@@ -9,15 +9,11 @@ positive (suc n) h = omega arith
 -- a role is that of one side
 pub one_side : (p : PatternKind) (side at : Side) (role : Role) → role ≡ role_at p side
     → role ≡ role_at p at → at ≡ side
-one_side p First First role e f = refl
-one_side p First Second role e f = absurd (roles_differ p (sym e ∙ f))
-one_side p Second First role e f = absurd (roles_differ p (sym f ∙ e))
-one_side p Second Second role e f = refl
+one_side p _ _ role e f = grind (arith, roles_differ)
 
 pub has_role : (p : PatternKind) (side : Side) (role : Role) → role ≡ role_at p side
     → IsEither (first_role p) (second_role p) role
-has_role p First role e = inl e
-has_role p Second role e = inr e
+has_role p _ role e = grind arith
 
 pub lacks : (p : PatternKind) (role : Role) → IsNeither (first_role p) (second_role p) role
     → IsEither (first_role p) (second_role p) role → ⊥
@@ -26,18 +22,15 @@ lacks p role n (inr e) = n.1 e
 
 pub ports_are : (s : Service) (side : Side) → IsService s
     → IsPortRegistry s.nodes.registry (role_at s.pattern side) (ports_at s side).registry
-ports_are s First i = i.ports_are.first
-ports_are s Second i = i.ports_are.second
+ports_are s _ i = grind arith
 
 pub given_at : (s : Service) (side : Side) (h : Handle) → MayGive (ports_at s side).registry h
     → MayGiveIn s (part_at side) h
-given_at s First h m = m
-given_at s Second h m = m
+given_at s _ h m = grind arith
 
 pub may_give_at : (s : Service) (side : Side) (h : Handle) → MayGiveIn s (part_at side) h
     → MayGive (ports_at s side).registry h
-may_give_at s First h m = m
-may_give_at s Second h m = m
+may_give_at s _ h m = grind arith
 
 -- a step of one registry
 pub steps_at : (p : PatternKind) (side : Side) (old : Ports) (role : Role)
@@ -111,26 +104,13 @@ module _ (Step : RegistryState PortDetails → RegistryState PortDetails → Typ
       → of_side (other_side side) w.ports.first w.ports.second
       ≡ of_side (other_side side) s.ports.first s.ports.second
       → quiet w ≡ at_side side s (ports_at w side).registry
-  by_ports First o =
-      ap quiet is
-      ∙ ap (λ (c : ContainerState PortDetails).
-      at_rest s.pattern s.nodes.registry w.ports.first.registry c.registry) o
-  by_ports Second o =
-      ap quiet is
-      ∙ ap (λ (c : ContainerState PortDetails).
-      at_rest s.pattern s.nodes.registry c.registry w.ports.second.registry) o
+  by_ports First o = grind arith
+  by_ports Second o = grind arith
 
   pub ports_taken : Takes (of_ports a.side) Step s (quiet w)
-  ports_taken = record {
-    registry = (ports_at w a.side).registry;
-    step = a.step.step;
-    whole = a.step.kept;
-    left = by_ports a.side a.others;
-  }
+  ports_taken = grind (arith, by_ports)
 
   -- they are those of the role
   pub taken_at : (side : Side) → role ≡ role_at s.pattern side
       → Takes (of_ports side) Step s (quiet w)
-  taken_at side at =
-      subst (λ z. Takes (of_ports z) Step s (quiet w))
-      (one_side s.pattern side a.side role at a.role_is) ports_taken
+  taken_at side at = grind (arith, one_side, ports_taken)

@@ -1,5 +1,5 @@
 -- What words tell.
-use Rattle.service_conformance.proofs.Names.{All-map, List, None, Option, Some, [], ap, append-nil, append_assoc, append_cancel_left, arith, codes, decimal, decimal_injective, map, refl, subst, sym, ℕ, ◌++◌, ◌+◌, ◌<◌, ◌^◌, ◌∙◌, ◌∷◌, ◌≡◌, ◌≢◌, get_or-map, length-map, false, inl, inr, ◌⊎◌, AllowsWords, ArePossible, ArePossibleWords, Bytes, EndsNumber, Entry, Handle, IsNextHandle, IsNextIn, IsSameReply, MayGive, MayGiveIn, NextHandle, Part, RegistryState, Reply, Service, Spelling, ReadsReplyHandle, after, cons_same, handle_words, line_end, number_one, sequence, text_of, handle_in, is_removal, All}
+use Rattle.service_conformance.proofs.Names.{All-map, List, None, Option, Some, [], ap, append-nil, append_assoc, append_cancel_left, arith, codes, decimal, decimal_injective, map, refl, subst, sym, ℕ, ◌++◌, ◌+◌, ◌<◌, ◌^◌, ◌∙◌, ◌∷◌, ◌≡◌, ◌≢◌, get_or-map, length-map, false, inl, inr, ◌⊎◌, AllowsWords, ArePossible, ArePossibleWords, Bytes, EndsNumber, Entry, Handle, IsNextHandle, IsNextIn, IsSameReply, MayGive, MayGiveIn, NextHandle, Part, RegistryState, Reply, Service, Spelling, ReadsReplyHandle, after, handle_words, line_end, number_one, sequence, text_of, handle_in, is_removal, All}
 use Rattle.service_descriptions.specs.declared.replay.machine.reply.Reply.TheVariants as reply
 use Rattle.service_descriptions.proofs.Lines.{any_fits, any_number}
 use Rattle.service_conformance.specs.declared.conformance.possible.Part.TheVariants as part
@@ -9,17 +9,12 @@ use Rattle.service_conformance.specs.declared.conformance.possible.PossibleRepli
 -- the text of a handle: its slot, a space, and the rest
 spaced : (slot ticket : ℕ) → codes "handle " ++ decimal slot ++ codes " " ++ decimal ticket
     ≡ codes "handle " ++ (decimal slot ++ 32 ∷ decimal ticket)
-spaced slot ticket =
-    ap (λ (l : List ℕ). codes "handle " ++ l)
-    (append_assoc (decimal slot) (32 ∷ []) (decimal ticket))
+spaced slot ticket = grind (arith, append_assoc)
 
 -- handles with the same parts are the same
 pub one_handle : (h k : Handle) → h.service ≡ k.service → h.role ≡ k.role → h.slot ≡ k.slot
     → h.ticket ≡ k.ticket → h ≡ k
-one_handle h k a b c d =
-    let same : h ≡ record { service = k.service; role = k.role; slot = k.slot; ticket = k.ticket } =
-    rw (← a, ← b, ← c, ← d) refl in
-    same
+one_handle h k a b c d = grind arith
 
 -- handles of one slot that may be given are the same
 pub same_handle : {T : Type 0} (r : RegistryState T) (h k : Handle) → MayGive r h → MayGive r k
@@ -61,9 +56,7 @@ slots_same s t u v p p' e = (slot_and_rest s t u v p p' e).0
 -- slots and tickets with one text are the same
 pub parts_same : (s t u v : ℕ) → s < 2 ^ 64 → t < 2 ^ 64 → u < 2 ^ 64 → v < 2 ^ 64
     → handle_words s t ≡ handle_words u v → (s ≡ u) × (t ≡ v)
-parts_same s t u v p q p' q' e =
-    let parts = slot_and_rest s t u v p p' e in
-    (parts.0, decimal_injective t v q q' (cons_same parts.1).1)
+parts_same s t u v p q p' q' e = grind (arith, slot_and_rest, decimal_injective)
 
 abbrev pub handle_phrase : Spelling (ℕ × (ℕ × Unit {0}))
 handle_phrase =
@@ -89,9 +82,7 @@ module _ {T : Type 0} (r : RegistryState T) (words : List ℕ) (fits : r.capacit
       (reported : handle_words slot ticket ≡ words) where
     parts_reported : (h : Handle) → MayGive r h → text_of (reply.Handle h) ≡ words
         → (h.slot ≡ slot) × (h.ticket ≡ ticket)
-    parts_reported h may e =
-        parts_same h.slot h.ticket slot ticket (omega (arith, may.fits, fits))
-        (omega (arith, may.ticket, counts)) s t (e ∙ sym reported)
+    parts_reported h may e = grind (arith, parts_same)
 
     -- the slot is not free
     pub none_free : ((h : Handle) → h.slot ≡ slot → ¬ (MayGive r h))
@@ -105,13 +96,7 @@ module _ {T : Type 0} (r : RegistryState T) (words : List ℕ) (fits : r.capacit
 
     pub one_next : (next : Handle) → next.slot ≡ slot → MayGive r next → next.ticket ≡ ticket
         → ReadsReplyHandle (MayGive r) words (Some next)
-    one_next next is may same =
-        let text : text_of (reply.Handle next) ≡ words =
-        ap (λ k. handle_words k next.ticket) is ∙ ap (handle_words slot) same ∙ reported in (
-          may,
-          text,
-          λ other so e. same_handle r next other may so (is ∙ sym (parts_reported other so e).0),
-        )
+    one_next next is may same = grind (arith, same_handle, parts_reported)
 
 from_map : {X Y : Type 0} (P : X → Type 0) (f : Y → X) (ys : List Y) → All P (map f ys)
     → All (λ y. P (f y)) ys
