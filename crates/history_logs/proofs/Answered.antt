@@ -350,7 +350,8 @@ read_on text count log (line_read before n old read l is none new g) =
       located = located_moves (before ++ more) n old l log.services (kept_read before n old read)
           (All-weaker (HasEventLinesTo before n) (HasEventLinesTo (before ++ more) n)
           (λ s p. located_on before n s p more n (omega arith)) old.services r.located)
-          (moves_step old log (n + 1) l g) is there (λ some. command_on before more n (r.waits some));
+          (moves_step old log (n + 1) l g) is there
+          (λ some. command_on before more n (r.waits some));
       waits = waits_step (before ++ more) n old log l g is there;
     }
 

@@ -263,8 +263,8 @@ pub moves_step : (old new : Log) (k : ℕ) (l : Line) → GoesOn old k l new
 moves_step old new k (service line) g = rw g.2 (one_added line (unseen line).start)
 moves_step old new k (call number c) g = rw g.4 none_changes
 moves_step old new k (reply words) g =
-    rw g.7 (one_changes g.0 g.2 (with_alone g.2 (called g.2 g.1) g.3 k) g.5 (call_alone g.1 words g.3
-    (λ none. let e = sym g.4 ∙ none in absurd (cc)) g.6))
+    rw g.7 (one_changes g.0 g.2 (with_alone g.2 (called g.2 g.1) g.3 k) g.5
+    (call_alone g.1 words g.3 (λ none. let e = sym g.4 ∙ none in absurd (cc)) g.6))
 moves_step old new k (begin number name b) g =
     rw g.5.3 (one_changes g.0 g.1 g.5.0 g.3.there (call_begins number name b g.5.0 g.5.1 g.5.2))
 moves_step old new k (end name words) g =
@@ -275,7 +275,8 @@ moves_step old new k (crash name) g =
 moves_step old new k (given number what) g =
     elim g.5 [
       | inl first ↦
-          rw first.1 (one_changes g.0 g.1 (started g.1 g.2) g.4.there (is_given number what g.2 first.0.0))
+          rw first.1 (one_changes g.0 g.1 (started g.1 g.2) g.4.there
+          (is_given number what g.2 first.0.0))
       | inr anew ↦ rw anew.1 (one_added g.1.line g.2)
     ]
 

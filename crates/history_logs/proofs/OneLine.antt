@@ -268,7 +268,8 @@ same_seen (seen.List ids) (seen.Handle a b) p q e =
     absurd (no_handle_text (replied.Nodes ids) refl a b e)
 same_seen (seen.Handle a b) (seen.List ids) p q e =
     absurd (no_handle_text (replied.Nodes ids) refl a b (sym e))
-same_seen (seen.Count n) (seen.Word w) p q e = absurd (no_count w n (is_named (replied.Count n) w e))
+same_seen (seen.Count n) (seen.Word w) p q e =
+    absurd (no_count w n (is_named (replied.Count n) w e))
 same_seen (seen.Word w) (seen.Count n) p q e =
     absurd (no_count w n (is_named (replied.Count n) w (sym e)))
 same_seen (seen.List ids) (seen.Word w) p q e =
