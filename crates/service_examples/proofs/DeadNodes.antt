@@ -1,15 +1,16 @@
 -- What stays of entries, and what removals of dead nodes leave of a service.
-use Rattle.std.proofs.Common.{◌≡◌, ◌∙◌, ℕ, zero, suc, ◌≤◌, Bool, true, false, List, [], ◌∷◌, ◌++◌, length, map, refl, sym, ap, arith}
+use Rattle.std.proofs.Common.{◌≡◌, ◌∙◌, ℕ, zero, suc, ◌≤◌, Bool, true, false, List, [], ◌∷◌, ◌++◌, length, filter, map, refl, sym, ap, arith}
 use Rattle.std.specs.Prelude.{not, ◌||◌, ◌&&◌, ◌==◌, nat_lt}
 use Rattle.std.proofs.Math.Bool.{or-false, and-true}
 use Rattle.std.proofs.lemmas.Bool.Decides.{nat_tests}
 use Rattle.std.proofs.lemmas.List.Sums.{count_by-le-length, length-filter}
 use Rattle.std.proofs.lemmas.List.Elements.{filter_agree}
 use Rattle.std.proofs.lemmas.List.Folds.{list_any-append}
-use Rattle.iox2_dynamic.proofs.Names.{LockIfLastIndex, Entry, CalledInTurn, candidates, is_of, marks_of, staying, UniquePortId, ReleaseState, ContainerState, RegistryState}
+use Rattle.iox2_dynamic.proofs.Names.{Default, LockIfLastIndex, Entry, CalledInTurn, candidates, is_of, marks_of, staying, UniquePortId, ReleaseState, ContainerState, RegistryState}
 use Rattle.iox2_container.specs.Calls.{is_outside}
-use Rattle.iox2_container.specs.Steps.{lock_after}
+use Rattle.iox2_container.specs.Steps.{RecoverStep, lock_after}
 use Rattle.iox2_container.proofs.Callable.{answers_by, passes_all}
+use Rattle.iox2_container.proofs.SameEntries.{passing, staying_by}
 use Rattle.iox2_container.proofs.SameEntries.{staying_by}
 use Rattle.service_examples.specs.Removal.{others, OnlyOthersStay, ports_without, nodes_without}
 use Rattle.iox2_dynamic.specs.declared.dynamic_config.answers.DeregisterNodeState.{DeregisterNodeState}
@@ -187,3 +188,21 @@ more_removed ds ms old mid new r s = record {
   second_ports = s.second_ports ∙ ap (ports_without ms) r.second_ports
       ∙ ports_then ds ms old.ports.second.registry;
 }
+
+passes_whole : {T : Type 0} (is_dead : T → Bool) (es : List (Entry T))
+    → passing (λ d. not (is_dead d && false)) es ≡ es
+passes_whole is_dead [] = refl
+passes_whole is_dead (e ∷ es) = grind (arith, filter, passes_whole is_dead es)
+
+-- where the callback never says that an entry goes, all stay
+pub all_stay : {F T : Type 0} (calls : F → T → Bool → F → Type 0) (is_dead : T → Bool)
+    → ((q : F) (x : T) (r : Bool) (v : F) → calls q x r v → r ≡ false)
+    → (old new : RegistryState T) (f g : F) (state : ReleaseState)
+    → RecoverStep calls is_dead old f Default state new g → new ≡ old
+all_stay {F} {T} calls is_dead never old new f g state r =
+    let same =
+    staying_by is_dead (λ _. false) r.marked old.entries
+    (answers_by {K = Unit {0}} calls (λ q. tt) (λ _ _. false)
+    (λ q x a v c. (refl, never q x a v c)) f _ _ g r.called)
+    ∙ passes_whole is_dead old.entries in
+    r.recovers.0 ∙ ap (λ es. record old { entries = es }) same

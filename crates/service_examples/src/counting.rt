@@ -31,7 +31,8 @@ pub fn count_called<T: Attached + Copy, R: Registry<T>>(
     registry: &mut R,
     node: &UniqueNodeId,
 ) -> usize
-    ensures { result ≡ entries_of T.node node.now (R.state registry.old).registry }
+    ensures count { result ≡ entries_of T.node node.now (R.state registry.old).registry }
+    ensures kept { (R.state registry.new).registry ≡ (R.state registry.old).registry }
 {
     // For the proof: the number of candidates fits a `usize`.
     let _bound = registry.entries_of(node);
