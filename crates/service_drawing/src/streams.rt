@@ -261,7 +261,7 @@ fn run<R: Source, W: Sink, E: Sink>(
 /// the version. The first argument is the program's name.
 ///
 /// - 0: the whole input was read, is a description, and the drawing was written; to `errors` a line
-///   for each key of the settings in front of it that no setting has, and else nothing.
+///   for each warning on the settings in front of it, and else nothing.
 /// - 1: an argument, a line or a setting is bad. Nothing was written to `output`, and to `errors`
 ///   the number of the first line that no description has there, why it is bad and what was
 ///   expected, or what is wrong with the settings in front.
