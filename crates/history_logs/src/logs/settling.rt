@@ -155,6 +155,20 @@ fn follow(
     Ok(true)
 }
 
+/// The front before any call on the service.
+fn begin(alloc: Global, service: &LogService) -> Result<Front<WatchedService>, AllocError>
+    requires some { 0 < length service.now.calls }
+    ensures { IfOk result (λ front. Stays service.now None service.now (Some front)) }
+{
+    let machine = Calls {
+        alloc,
+        first: service.first(),
+        calls: service.kept(),
+    };
+    let states = first_states(alloc, service)?;
+    first_front(alloc, &machine, &states)
+}
+
 /// The front of a service, or that before any call on it, where there is none yet.
 fn front_or_begin(
     alloc: Global,
@@ -166,15 +180,7 @@ fn front_or_begin(
 {
     match front {
         Some(last) => Ok(last),
-        None => {
-            let machine = Calls {
-                alloc,
-                first: service.first(),
-                calls: service.kept(),
-            };
-            let states = first_states(alloc, service)?;
-            first_front(alloc, &machine, &states)
-        }
+        None => begin(alloc, service),
     }
 }
 
