@@ -1,6 +1,6 @@
 -- Configurations in chains.
-use Rattle.histories.proofs.Words.{◌≡◌, ℕ, ◌+◌, ◌%◌, ◌<◌, List, [], ◌∷◌, ◌++◌, length, get_or, sym, ◌∙◌, ap, subst, arith, inl, inr, true, false, ◌≢◌, ◌-◌, ◌≤◌, Bool, All, drop, set, replicate, cases_order, cases_eq, cases_lt, get_or-drop, get_or-replicate, get_or-set_other, get_or-set_same, get_or_default, get_or_past, length-drop, length-replicate, length_push, Config, IsSame, IsKnown, AreChained, AreLinked, AreOther, chain_at, chain_of, get_or-append, get_or-append_seam}
-use Rattle.histories.proofs.Indices.{less_of}
+use Rattle.histories.proofs.Words.{[], ◌≡◌, ℕ, ◌+◌, ◌%◌, ◌<◌, List, ◌∷◌, ◌++◌, length, get_or, sym, ◌∙◌, ap, subst, arith, inl, inr, true, false, ◌≢◌, ◌-◌, ◌≤◌, Bool, All, drop, set, replicate, cases_order, cases_eq, cases_lt, get_or-drop, get_or-replicate, get_or-set_other, get_or-set_same, get_or_default, get_or_past, length-drop, take_all, length-replicate, length_push, Config, IsSame, IsKnown, AreChained, AreLinked, AreOther, chain_at, chain_of, get_or-append, get_or-append_seam}
+use Rattle.histories.proofs.Lists.{less_of}
 
 -- where no index is in a chain
 pub linked_none : (chain : ℕ → ℕ) (heads before : List ℕ) → length before ≡ 0
@@ -190,3 +190,5 @@ module _ {S : Type 0} where
         is.2,
       )
   known_rest configs config from false first is = all_other _ config _ first is
+
+pub ruleset known_there = (known_rest, take_all, length-drop)

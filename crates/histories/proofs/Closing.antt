@@ -1,10 +1,9 @@
 -- A call that ends is made.
-use Rattle.histories.proofs.Words.{◌≡◌, ◌↔◌, ℕ, ◌+◌, ◌<◌, ◌≤◌, List, [], ◌∷◌, ◌++◌, length, refl, sym, ◌∙◌, ap, arith, inl, inr, append-nil, append_assoc, Option, AllPairs, cases_eq, bit_at, Contains-push, Contains-push_cases, Config, HasSlot, IsLighter, IsSame, LeadTo, Path, Runs, cleared, path_more, path_of, ComesFirst, FromOne, Gathers, GoesFrom, GoesOn, IsClosed, IsClosing, IsDone, IsMadeFrom, IsNextAt, IsSettled, IsUnderWay, MovesFirst, Settles, Spot, ones, spot_of}
+use Rattle.histories.proofs.Words.{[], ◌≡◌, ◌↔◌, ℕ, ◌+◌, ◌<◌, ◌≤◌, List, ◌∷◌, ◌++◌, length, refl, sym, ◌∙◌, ap, arith, inl, inr, append-nil, append_assoc, Option, AllPairs, cases_eq, bit_at, Contains-push, Contains-push_cases, Config, HasSlot, IsLighter, IsSame, LeadTo, Path, Runs, cleared, path_more, path_of, ComesFirst, FromOne, Gathers, GoesFrom, GoesOn, IsClosed, IsClosing, IsDone, IsMadeFrom, IsNextAt, IsSettled, IsUnderWay, MovesFirst, Settles, Spot, ones, spot_of}
 use Rattle.histories.specs.Gathering.{IsNext}
-use Rattle.histories.proofs.Indices.{nothing_in, only}
-use Rattle.histories.proofs.Bits.{bit_cases, cleared_le, cleared_same, ones_le, ones_less, ones_most, slot_64, slot_once, slot_within}
+use Rattle.histories.proofs.Lists.{nothing_in, only}
+use Rattle.histories.proofs.Running.{bit_cases, cleared_le, cleared_same, ones_le, ones_less, ones_most, slot_64, slot_once, slot_within, lighter_then, runs_fewer, runs_first, runs_lighter, runs_then}
 use Rattle.histories.proofs.Gathering.{adds_as, adds_none, adds_then, from_first, from_last, gathers_none}
-use Rattle.histories.proofs.Running.{lighter_then, runs_fewer, runs_first, runs_lighter, runs_then}
 
 -- of none, all are different
 pub none_same : {S : Type 0} → AllPairs (λ (a b : Config S). ¬ (IsSame a b)) []

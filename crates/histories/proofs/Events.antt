@@ -1,8 +1,8 @@
 -- One event more.
-use Rattle.histories.proofs.Words.{map, get_or, get_or-map, length-map, sym, subst, None, suc, HasManyOpen, AreTaken, eq-eqb, Some, false, ◌≡◌, ◌≢◌, ℕ, zero, ◌+◌, ◌<◌, ◌⊎◌, List, [], ◌∷◌, ◌++◌, length, cond, refl, ap, arith, inl, inr, ◌∙◌, Option, cases_eq, eqb_tells, slice_get_within, FreesSlot, TakesSlot, Event, Begin, End, Crash, EndsAt, HasEnded, IsAnswered, IsOpen, IsOver, StandsAt, Ends, IsSound, HasSlot, IsTable, take, cases_lt, IsQuiet}
-use Rattle.histories.proofs.Bits.{slot_once}
+use Rattle.histories.proofs.Words.{[], map, get_or, get_or-map, length-map, sym, subst, None, suc, HasManyOpen, AreTaken, eq-eqb, Some, false, ◌≡◌, ◌≢◌, ℕ, zero, ◌+◌, ◌<◌, ◌⊎◌, List, ◌∷◌, ◌++◌, length, cond, refl, ap, arith, inl, inr, ◌∙◌, Option, cases_eq, eqb_tells, slice_get_within, FreesSlot, TakesSlot, Event, Begin, End, Crash, EndsAt, HasEnded, IsAnswered, IsOpen, IsOver, StandsAt, Ends, IsSound, HasSlot, IsTable, take, cases_lt, IsQuiet, begins, times}
+use Rattle.histories.proofs.Running.{slot_once}
 use Rattle.histories.specs.Histories.{begins, times}
-use Rattle.histories.proofs.Counting.{at_times, times_once, times_one, times_other}
+use Rattle.histories.proofs.Lists.{at_times, times_once, times_one, times_other}
 
 pub begins-append : (c : ℕ) (es fs : List Event) → begins c (es ++ fs) ≡ begins c es + begins c fs
 unfolding begins
@@ -272,10 +272,6 @@ pub freed_before : (slots new : List (Option ℕ)) (t slot call : ℕ) → Frees
     → HasSlot new slot call → (slot ≢ t) × HasSlot slots slot call
 freed_before slots new t slot call frees has = grind (arith, cases_eq)
 
-pub freed_still : (slots new : List (Option ℕ)) (t slot call : ℕ) → FreesSlot slots t new
-    → slot ≢ t → HasSlot slots slot call → HasSlot new slot call
-freed_still slots new t slot call frees ne has = frees.others slot ne ∙ has
-
 pub table_begin : (es : List Event) (slots new : List (Option ℕ)) (c t : ℕ) → IsSound es
     → begins c es ≡ 0 → IsTable es slots → TakesSlot slots c t new
     → IsTable (es ++ Begin c ∷ []) new
@@ -300,8 +296,8 @@ table_end es slots new e c t ends table here frees = record {
   all = λ call is.
       let at = table.all call (open_end_before _ _ _ _ ends is) in (
         at.0,
-        freed_still _ _ _ _ _ frees (λ same. open_end_other _ _ _ _ ends is
-            (slot_once slots t _ _ (rw (← same) at.1) here)) at.1,
+        frees.others at.0 (λ same. open_end_other _ _ _ _ ends is
+            (slot_once slots t _ _ (rw (← same) at.1) here)) ∙ at.1,
       );
   apart = λ one other call a b. grind (arith, freed_before);
   few = omega (arith, frees.few, table.few);
@@ -427,3 +423,33 @@ stands_front [] k p e at less = absurd (cc)
 stands_front (x ∷ es) zero p e at less = absurd (omega arith)
 stands_front (x ∷ es) (suc k) zero e at less = at
 stands_front (x ∷ es) (suc k) (suc p) e at less = stands_front es k p e at (omega (arith, less))
+
+-- a call has ended, or not
+ended_or_not : (es : List Event) (c : ℕ) → HasEnded es c ⊎ (¬ (HasEnded es c))
+ended_or_not [] c = inr (λ h. absurd (omega (arith, ends_within [] h.0 c h.1)))
+ended_or_not (e ∷ es) c =
+    elim (ended_or_not es c) [
+      | inl h ↦ inl (suc h.0, h.1)
+      | inr none ↦ elim (ends_or_not e c) [
+        | inl here ↦ inl (0, here)
+        | inr not ↦ inr (λ h. neither h.0 h.1 none not)
+      ]
+    ]
+  where
+    ends_or_not : (e : Event) (c : ℕ) → EndsAt (e ∷ es) 0 c ⊎ (¬ (EndsAt (e ∷ es) 0 c))
+    ends_or_not (Begin b) c = grind arith
+    ends_or_not (End b) c = grind (arith, cases_eq)
+    ends_or_not (Crash b) c = grind (arith, cases_eq)
+
+    neither : (k : ℕ) → EndsAt (e ∷ es) k c → ¬ (HasEnded es c) → ¬ (EndsAt (e ∷ es) 0 c) → ⊥
+    neither zero at none not = not at
+    neither (suc k) at none not = none (k, at)
+
+-- no call is open where none has a slot
+pub quiet_empty : (es : List Event) (slots : List (Option ℕ)) → IsTable es slots
+    → ((slot call : ℕ) → HasSlot slots slot call → ⊥) → IsQuiet es
+quiet_empty es slots table empty call begun =
+    elim (ended_or_not _ _) [
+      | inl h ↦ h
+      | inr none ↦ grind arith
+    ]

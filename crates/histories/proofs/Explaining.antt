@@ -1,8 +1,9 @@
--- What explains a history, and one event more.
-use Rattle.histories.proofs.Words.{◌≡◌, ℕ, ◌+◌, ◌<◌, List, [], ◌∷◌, ◌++◌, get_or, arith, inl, inr, Option, append-nil, append_assoc, cases_lt, all_pairs_push, Event, Begin, End, begins, times, Explains, HasEnded, IsOpen, IsOver, Leads, Ends, IsSound, IsTable, Leaves, Runs, cleared}
-use Rattle.histories.proofs.Counting.{all_pairs_behind, all_pairs_front, apart, times-append, times-cons, times_at, times_one, times_other, times_same}
-use Rattle.histories.proofs.Events.{answered_cases, answered_ended, answered_left, begin_no_end, begins-append, begins_begin, begins_cases, ends_one, over_cases, over_ended, over_now, over_left}
-use Rattle.histories.proofs.Running.{leads_push, leaves_made}
+-- What explains a history: with one event more, in two parts where no call is open between them,
+-- and by other steps.
+use Rattle.histories.proofs.Words.{[], ◌≡◌, ℕ, ◌+◌, ◌<◌, List, ◌∷◌, ◌++◌, get_or, arith, inl, inr, Option, append-nil, append_assoc, cases_lt, all_pairs_push, Event, Begin, End, begins, times, Explains, HasEnded, IsOpen, IsOver, Leads, Ends, IsSound, IsTable, Leaves, Runs, cleared, suc, refl, ap, ◌∙◌, AllPairs, map, IsExplained, IsQuiet}
+use Rattle.histories.proofs.Lists.{all_pairs_behind, all_pairs_front, apart, times-append, times-cons, times_at, times_one, times_other, times_same, times_none, all_pairs_back, all_pairs_join, contains_map_of}
+use Rattle.histories.proofs.Events.{answered_cases, answered_ended, answered_left, begin_no_end, begins-append, begins_begin, begins_cases, ends_one, over_cases, over_ended, over_now, over_left, ends_within, stands_within, begins_stands, ends_either, ends_left, stands_begins, stands_either, stands_right, answered_right, over_right}
+use Rattle.histories.proofs.Running.{leads_push, leaves_made, leads_join, leads_split}
 
 module _ {S : Type 0} (Step : S → ℕ → S → Type 0) where
   -- an open call is made after an order
@@ -138,3 +139,174 @@ module _ {S : Type 0} (Step : S → ℕ → S → Type 0) where
       explains_more _ _ _ _ _ (λ c is. absurd (begin_no_end _ _ (rw is at ends))) (λ c is.
       let same : c ≡ call = ends_one _ _ _ (inl is) ends in
       rw same (made (rw same at is))) ex
+
+-- a call of the first part is over when one of the second begins
+over_across : (es fs : List Event) (c d : ℕ) → IsQuiet es → 0 < begins c es → 0 < begins d fs
+    → IsOver (es ++ fs) c d
+over_across es fs c d quiet first second =
+    let a = quiet c first in
+    let b = begins_stands _ _ second in
+    let r = stands_right _ fs _ _ b.1 in (
+      a.0,
+      r.0,
+      omega (arith, ends_within es a.0 c a.1, r.1),
+      ends_left es fs a.0 c a.1,
+      r.2,
+    )
+
+-- an order has first the calls of the first part, and then those of the second
+pub cut_order : (es fs : List Event) (order : List ℕ) → IsQuiet es
+    → ((c : ℕ) → 0 < times c order → 0 < begins c es + begins c fs)
+    → AllPairs (λ first second. ¬ (IsOver (es ++ fs) second first)) order
+    → (front : List ℕ) × (back : List ℕ) × (order ≡ front ++ back)
+    × ((c : ℕ) → 0 < times c front → 0 < begins c es)
+    × ((c : ℕ) → 0 < times c back → 0 < begins c fs)
+cut_order es fs [] quiet begun all = grind (arith, times_none)
+cut_order es fs (x ∷ order) quiet begun all =
+    elim (cases_lt 0 (begins x es)) [
+      | inl some ↦
+          let r = cut_order es fs order quiet
+          (λ c h. begun c (omega (arith, h, times-cons c x order)))
+          (λ i j d less within. all (suc i) (suc j) d (omega arith) (omega arith)) in (
+            x ∷ r.0,
+            r.1,
+            ap (λ (l : List ℕ). x ∷ l) r.2,
+            λ c h. elim (cases_lt 0 (times c (x ∷ []))) [
+              | inl here ↦ rw (← times_same _ _ here) some
+              | inr not ↦ r.3 c (omega (arith, h, not, times-cons c x r.0))
+            ],
+            r.4,
+          )
+      | inr none ↦ (
+        [],
+        x ∷ order,
+        refl,
+        λ c h. absurd (omega (arith, h, times_none c)),
+        λ c h. elim (cases_lt 0 (begins c es)) [
+          | inr not ↦ omega (arith, not, begun c h)
+          | inl early ↦ elim (cases_lt 0 (times c (x ∷ []))) [
+            | inl here ↦ grind (arith, times_same)
+            | inr not ↦
+                let behind : 0 < times c order = omega (arith, h, not, times-cons c x order) in
+                let late : 0 < begins x fs =
+                omega (arith, none, begun x (times_at (x ∷ order) 0 0 (omega arith))) in
+                absurd
+                (all_pairs_behind (λ first second. ¬ (IsOver (es ++ fs) second first)) [] order x c
+                all behind (over_across _ _ _ _ quiet early late))
+          ]
+        ],
+      )
+    ]
+
+-- what was over in the whole when a call of the first part began was over there
+pub over_in_left : (es fs : List Event) (c d : ℕ) → IsSound (es ++ fs) → 0 < begins d es
+    → IsOver (es ++ fs) c d → IsOver es c d
+over_in_left es fs c d whole some o =
+    grind (arith, stands_either, ends_either, stands_within, stands_begins, begins-append)
+
+pub over_in_right : (es fs : List Event) (c d : ℕ) → IsSound es → IsSound (es ++ fs)
+    → 0 < begins c fs → 0 < begins d fs → IsOver (es ++ fs) c d → IsOver fs c d
+over_in_right es fs c d first whole some late o =
+    grind (arith, stands_either, stands_begins, begins-append, ends_either)
+
+module _ {S : Type 0} (Step : S → ℕ → S → Type 0) where
+  -- an order of the whole is one of the first part and one of the rest
+  pub explains_split : (es fs : List Event) (old new : S) (order : List ℕ) → IsSound es
+      → IsSound fs → IsSound (es ++ fs) → IsQuiet es → Explains Step (es ++ fs) old order new
+      → (mid : S) × (front : List ℕ) × (back : List ℕ) × Explains Step es old front mid
+      × Explains Step fs mid back new
+  explains_split es fs old new order first second whole quiet ex =
+      let P : ℕ → ℕ → Type 0 = λ before after. ¬ (IsOver (es ++ fs) after before) in
+      let parts = cut_order es fs order quiet
+      (λ c h. omega (arith, ex.begun c h, begins-append c es fs)) ex.real_time in
+      let front = parts.0 in
+      let back = parts.1 in
+      let counts : (c : ℕ) → times c order ≡ times c front + times c back =
+      λ c. ap (times c) parts.2 ∙ times-append c front back in
+      let pairs : AllPairs P (front ++ back) = rw (← parts.2) ex.real_time in
+      let leads = leads_split Step old new front back (rw (← parts.2) ex.leads) in (
+        leads.0,
+        front,
+        back,
+        record {
+          once = λ c. omega (arith, counts c, ex.once c);
+          begun = parts.3;
+          answered = λ c a. grind (arith, cases_lt, answered_left, answered_ended, begins-append);
+          real_time = λ i j d less within over. all_pairs_front P front back pairs i j d less within
+              (over_left es fs (get_or front j d) (get_or front i d) over);
+          leads = leads.1;
+        },
+        record {
+          once = λ c. omega (arith, counts c, ex.once c);
+          begun = parts.4;
+          answered = λ c a. grind (arith, cases_lt, answered_right, answered_ended, begins-append);
+          real_time = λ i j d less within over. all_pairs_back P front back pairs i j d less within
+              (over_right es fs (get_or back j d) (get_or back i d) over);
+          leads = leads.2;
+        },
+      )
+
+  -- an order of the first part and one of the rest are one of the whole
+  pub explains_join : (es fs : List Event) (old mid new : S) (front back : List ℕ) → IsSound es
+      → IsSound (es ++ fs) → Explains Step es old front mid
+      → Explains Step fs mid back new → Explains Step (es ++ fs) old (front ++ back) new
+  explains_join es fs old mid new front back first whole x y =
+      let counts : (c : ℕ) → times c (front ++ back) ≡ times c front + times c back =
+      λ c. times-append c front back in record {
+        once = λ c. grind (arith, cases_lt, begins-append);
+        begun = λ c h. grind (arith, cases_lt, begins-append);
+        answered = λ c a. grind (arith, stands_either);
+        real_time = all_pairs_join (λ before after. ¬ (IsOver (es ++ fs) after before)) front back
+            (λ i j d less within over. x.real_time i j d less within
+            (over_in_left es fs (get_or front j d) (get_or front i d) whole
+            (x.begun (get_or front i d) (times_at front i d (omega arith))) over))
+            (λ i j d less within over. y.real_time i j d less within
+            (over_in_right es fs (get_or back j d) (get_or back i d) first whole
+            (y.begun (get_or back j d) (times_at back j d within))
+            (y.begun (get_or back i d) (times_at back i d (omega arith))) over))
+            (λ a b here there over.
+            let is = over_in_left es fs b a whole (x.begun a here) over in
+            absurd
+            (omega (
+              arith,
+              first.begun b (is.0, is.3),
+              y.begun b there,
+              whole.once b,
+              begins-append b es fs,
+            )));
+        leads = leads_join Step _ _ _ front back x.leads y.leads;
+      }
+
+-- Of a call that has begun, each step is a step of the others too, between what is seen of states.
+module _ {S T : Type 0} (Step : S → ℕ → S → Type 0) (Other : T → ℕ → T → Type 0) (seen : S → T)
+    (events : List Event)
+    (follows : (old : S) (call : ℕ) (new : S) → 0 < begins call events → Step old call new
+    → Other (seen old) call (seen new))
+  where
+    leads_seen : (order : List ℕ) (old new : S)
+        → ((call : ℕ) → 0 < times call order → 0 < begins call events)
+        → Leads Step old order new → Leads Other (seen old) order (seen new)
+    leads_seen [] old new begun leads = ap seen leads
+    leads_seen (call ∷ order) old new begun leads = (
+      seen leads.0,
+      follows old call leads.0
+          (begun call (omega (arith, times-cons call call order, times_one call))) leads.1,
+      leads_seen order leads.0 new
+          (λ c some. begun c (omega (arith, some, times-cons c call order))) leads.2,
+    )
+
+    pub explained_seen : (olds : List S) → IsExplained Step events olds
+        → IsExplained Other events (map seen olds)
+    explained_seen olds x = (
+      seen x.0,
+      x.1,
+      seen x.2,
+      contains_map_of seen olds x.0 x.3,
+      record {
+        once = x.4.once;
+        begun = x.4.begun;
+        answered = x.4.answered;
+        real_time = x.4.real_time;
+        leads = leads_seen x.1 x.0 x.2 x.4.begun x.4.leads;
+      },
+    )

@@ -1,12 +1,10 @@
 -- The configurations after one event more, and what an event does to a front.
-use Rattle.histories.proofs.Words.{◌≡◌, ◌≢◌, ℕ, ◌<◌, ◌≤◌, List, [], ◌∷◌, ◌++◌, length, refl, sym, ◌∙◌, ap, arith, inl, inr, Option, AllPairs, bit_at, Contains, Config, Link, Event, End, Crash, times, AreSound, Explains, Ends, HasManyOrders, HasSlot, IsFollowed, IsFrontier, IsLighter, IsSame, IsTable, LeadTo, Leaves, Path, cleared, no_path, order_at, order_of, path_of, FreesSlot, FromOne, Gathers, HasMany, IsClosed, IsDropped, IsFirst, IsMadeFrom, Spot, spot_of, ◌+◌, cases_lt, Begin, begins, AreComplete, IsSound, IsWaiting, Runs, path_more, put, IsFrontOf, IsOpened, Settles, TakesSlot, AreLaidIn, Finishes, IsLeft, Advance, Front, AdvancesIn, Agrees, EndsOpen, IsSameFront}
-use Rattle.histories.proofs.Bits.{bit_cases, cleared_other, cleared_same, slot_64, slot_within, cleared_put, put_other, put_same}
-use Rattle.histories.proofs.Counting.{not_some, times_none, no_times, split_times, times-append, times-cons, times_one, times_same}
-use Rattle.histories.proofs.Events.{answered_now, begins_none, freed_before, table_end, begins_begin, table_begin, taken_cases, taken_other, taken_still, begin_no_end, ends_one}
-use Rattle.histories.proofs.Running.{lighter_cleared, runs_fewer, runs_in, runs_without, lighter_without, leads_split, leaves_run, runs_lighter, runs_order, runs_then}
+use Rattle.histories.proofs.Words.{[], ◌≡◌, ◌≢◌, ℕ, ◌<◌, ◌≤◌, List, ◌∷◌, ◌++◌, length, refl, sym, ◌∙◌, ap, arith, inl, inr, Option, AllPairs, bit_at, Contains, Config, Link, Event, End, Crash, times, AreSound, Explains, Ends, HasManyOrders, HasSlot, IsFollowed, IsFrontier, IsLighter, IsSame, IsTable, LeadTo, Leaves, Path, cleared, no_path, order_at, order_of, path_of, FreesSlot, FromOne, Gathers, HasMany, IsClosed, IsDropped, IsFirst, IsMadeFrom, Spot, spot_of, ◌+◌, cases_lt, Begin, begins, AreComplete, IsSound, IsWaiting, Runs, path_more, put, IsFrontOf, IsOpened, Settles, TakesSlot, AreLaidIn, Finishes, IsLeft, Advance, Front, AdvancesIn, Agrees, EndsOpen, IsSameFront}
+use Rattle.histories.proofs.Running.{bit_cases, cleared_other, cleared_same, slot_64, slot_within, cleared_put, put_other, put_same, lighter_cleared, runs_fewer, runs_in, runs_without, lighter_without, leads_split, leaves_run, runs_lighter, runs_order, runs_then}
+use Rattle.histories.proofs.Lists.{not_some, times_none, no_times, split_times, times-append, times-cons, times_one, times_same, nothing_in, order_more, order_none, frontier_laid}
+use Rattle.histories.proofs.Events.{answered_now, begins_none, freed_before, table_end, begins_begin, table_begin, taken_cases, taken_other, taken_still, ends_one}
 use Rattle.histories.proofs.Explaining.{explains_end, explains_open, explains_run, behind_open, explains_begin, explains_front, explains_without}
 use Rattle.histories.proofs.Closing.{leads_found, leads_kept, none_same, HaveSameSteps, closed_as, leads_sought, made_as}
-use Rattle.histories.proofs.Indices.{nothing_in, order_more, order_none, frontier_laid}
 use Rattle.histories.specs.declared.front.Advance.TheVariants as advance
 
 module _ {S : Type 0} (Step : S → ℕ → S → Type 0) where
@@ -422,9 +420,6 @@ module _ {S : Type 0} (Step : S → ℕ → S → Type 0) (events : List Event) 
         | inl many ↦ grind (arith, front_many)
         | inr laid ↦ laid_out _ _ new _ there laid ends
       ]
-
-pub begin_ends : (events : List Event) (c : ℕ) → EndsOpen events (Begin c)
-begin_ends events c x ends = absurd (begin_no_end _ _ ends)
 
 -- the call that ends has a slot
 pub slot_ends : (events : List Event) (e : Event) (slots : List (Option ℕ)) (slot c : ℕ)

@@ -1,8 +1,8 @@
 -- Configurations that are gathered.
-use Rattle.histories.proofs.Words.{◌≡◌, Option, ℕ, ◌+◌, ◌<◌, ◌⊎◌, List, [], ◌∷◌, ◌++◌, length, take, get_or, refl, sym, ◌∙◌, ap, subst, arith, inl, inr, true, false, bit_at, cases_eq, cases_order, length_push, take_more, All-contains, Contains-append_left, Contains-push, Contains-push_cases, all_pairs_push, slice_set, Config, AreEnough, AllPairs, Contains, map, length-map, ◌≢◌, IsSame, IsWaiting, Path, cleared, path_more, path_of, Adds, FromOne, Gathers, IsBegun, IsCopy, IsDone, IsDropped, IsKnown, IsMadeIn, IsNextAt, IsNextBeside, IsNextIn, IsOpened, IsSettled, IsSpot, Settles, Spot, spot_of}
+use Rattle.histories.proofs.Words.{[], ◌≡◌, Option, ℕ, ◌+◌, ◌<◌, ◌⊎◌, List, ◌∷◌, ◌++◌, length, take, get_or, refl, sym, ◌∙◌, ap, subst, arith, inl, inr, true, false, bit_at, cases_eq, cases_order, length_push, take_more, All-contains, Contains-append_left, Contains-push, Contains-push_cases, all_pairs_push, slice_set, Config, AreEnough, AllPairs, Contains, map, length-map, ◌≢◌, IsSame, IsWaiting, Path, cleared, path_more, path_of, Adds, FromOne, Gathers, IsBegun, IsCopy, IsDone, IsDropped, IsKnown, IsMadeIn, IsNextAt, IsNextBeside, IsNextIn, IsOpened, IsSettled, IsSpot, Settles, Spot, spot_of}
 use Rattle.histories.specs.Gathering.{IsNext}
-use Rattle.histories.proofs.Bits.{slot_once}
-use Rattle.histories.proofs.Indices.{nothing_in, one_of_one, contains_map_of, no_more}
+use Rattle.histories.proofs.Running.{slot_once}
+use Rattle.histories.proofs.Lists.{nothing_in, one_of_one, contains_map_of, no_more}
 
 spot_with : {S : Type 0} → S → ℕ → Path → Spot S
 spot_with state waiting made = record { state = state; waiting = waiting; made = made }

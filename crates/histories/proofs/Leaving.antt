@@ -1,13 +1,11 @@
--- Histories of which calls are left out, those in which each call begins once and one that is open
--- ends, and the states with which a window begins.
-use Rattle.histories.proofs.Words.{◌≡◌, ℕ, zero, suc, ◌<◌, ◌≤◌, Bool, true, false, eqb, List, [], ◌∷◌, take, refl, ap, arith, inl, inr, filter, cond_both, eqb_tells, AllPairs-filter, Event, Begin, End, Crash, Explains, HasEnded, IsAnswered, IsExplained, IsOver, Leads, StandsAt, LeavesOutIdle, call_of, events_of, ◌++◌, length, length-append, add-one, get_or, ◌∙◌, subst, take_all, take-append-add, take-append_seam, slice_get-get_or, EndsOpen, Ends, IsQuiet, IsHistory, IsOpen, MayFollow, IsSound, IsWellFormed, ◌+◌, Option, sym, append-nil, Contains, set, replicate, nil_from_length, get_or-set_other, set-get_or, set-set, get_or_past, get_or-replicate, length-replicate, Config, Link, HasSlot, IsFrontOf, IsFrontier, IsIdle, Window, states_of, AreIdle, IsRest, is_kept, IsCut, IsWindowOf, cases_eq, cases_lt, not-false, Advance, Front, AdvancesIn, IsAdvance}
+-- Histories of which calls are left out, and the states with which a window begins.
+use Rattle.histories.proofs.Words.{[], ◌≡◌, ℕ, zero, suc, ◌<◌, ◌≤◌, Bool, true, false, eqb, List, ◌∷◌, take, refl, ap, arith, inl, inr, filter, cond_both, eqb_tells, AllPairs-filter, Event, Begin, End, Crash, Explains, HasEnded, IsAnswered, IsExplained, IsOver, Leads, StandsAt, LeavesOutIdle, call_of, events_of, ◌++◌, length, length-append, get_or, ◌∙◌, subst, take_all, slice_get-get_or, Ends, IsHistory, IsOpen, IsWellFormed, ◌+◌, Option, sym, append-nil, Contains, set, replicate, nil_from_length, get_or-set_other, set-get_or, set-set, get_or_past, get_or-replicate, length-replicate, Config, Link, HasSlot, IsFrontOf, IsFrontier, IsIdle, Window, states_of, AreIdle, IsRest, is_kept, IsCut, IsWindowOf, cases_eq, cases_lt, not-false, Advance, Front, AdvancesIn, IsAdvance}
 use Rattle.histories.specs.Histories.{begins, times}
-use Rattle.histories.proofs.Counting.{times-cons, times_none, times_other}
-use Rattle.histories.specs.Needed.{OrdersExplainTheRest, RefusedRestsRefuse}
-use Rattle.histories.proofs.Events.{stands_front, stands_take, open_inside, begins_none, sound_none, stands_right, stands_within, begins-append}
-use Rattle.histories.proofs.Cutting.{runs_nothing}
-use Rattle.histories.proofs.Verdicts.{AreNumbered, ends_of, history_take, next_fresh, next_of, one_more, sound_more, agrees_same, frontier_refused}
-use Rattle.histories.proofs.Indices.{contains_map_of, contains_of_map}
+use Rattle.histories.proofs.Lists.{times-cons, times_none, times_other, contains_map_of, contains_of_map}
+use Rattle.histories.specs.Windows.{OrdersExplainTheRest, RefusedRestsRefuse}
+use Rattle.histories.proofs.Events.{stands_front, stands_take, begins_none}
+use Rattle.histories.proofs.Running.{runs_nothing}
+use Rattle.histories.proofs.Verdicts.{formed_history, formed_inside, sound_formed, sound_take, one_more, agrees_same, frontier_refused}
 use Rattle.histories.proofs.Frontiers.{explains_none, no_calls}
 use Rattle.histories.specs.declared.front.Advance.TheVariants as advance
 
@@ -136,58 +134,6 @@ explains_rest Step kept events old new order idle ex = explains_of _ _ idle _ _ 
 
 pub refused_rest : {S : Type 0} (Step : S → ℕ → S → Type 0) → RefusedRestsRefuse Step
 refused_rest Step kept events olds rest x = rest.refused (explained_of _ _ rest.others _ _ x)
-
--- what comes in a history where no call is open is well formed
-pub formed_inside : (es fs : List Event) → IsHistory (es ++ fs) → IsQuiet es → IsWellFormed fs
-formed_inside es fs history quiet p e at =
-    let r = stands_right _ _ _ _ at in
-    let front : List Event = es ++ take p fs in
-    let is : take r.0 (es ++ fs) ≡ front =
-    ap (λ n. take n (es ++ fs)) r.1 ∙ take-append-add es fs p in
-    let may : MayFollow front e = rw (← is) (history r.0 e r.2) in
-    let numbered : AreNumbered front =
-    subst (λ (l : List Event). AreNumbered l) is
-    (history_take _ history _ (omega (arith, stands_within (es ++ fs) r.0 e r.2))).1 in (
-      λ c begins. omega (
-        arith,
-        next_fresh front e numbered (next_of front e may) c begins,
-        begins-append c es (take p fs),
-      ),
-      λ c ends. open_inside _ _ _ quiet (ends_of _ _ may c ends),
-    )
-
--- so is a history
-pub formed_history : (es : List Event) → IsHistory es → IsWellFormed es
-formed_history es history =
-    formed_inside [] es history (λ c some. absurd (omega (arith, some, begins_none c)))
-
--- each call of it begins once
-pub sound_take : (es : List Event) → IsWellFormed es → (i : ℕ) → i ≤ length es → IsSound (take i es)
-sound_take es formed zero h = sound_none
-sound_take es formed (suc i) h =
-    let e = get_or es i (Begin 0) in
-    let this = formed i e (slice_get-get_or es i (Begin 0) (omega arith)) in
-    rw (← add-one, one_more es i (Begin 0) (omega arith))
-    (sound_more _ _ (sound_take es formed i (omega arith)) this.0 this.1)
-
-pub sound_formed : (es : List Event) → IsWellFormed es → IsSound es
-sound_formed es formed =
-    rw (← take_all (length es) es (omega arith)) (sound_take _ formed _ (omega arith))
-
--- the first events are well formed
-pub formed_front : (es fs : List Event) → IsWellFormed (es ++ fs) → IsSound es
-formed_front es fs formed =
-    rw (← take-append_seam es fs) (sound_take _ formed _ (omega (arith, length-append es fs)))
-
--- a call that begins next is new, and one that ends next is open
-pub formed_next : (es fs : List Event) (e : Event) → IsWellFormed (es ++ e ∷ fs)
-    → ((c : ℕ) → e ≡ Begin c → begins c es ≡ 0) × EndsOpen es e
-formed_next es fs e formed =
-    rw (← take-append_seam es (e ∷ fs)) (formed (length es) e (stands_seam es))
-  where
-    stands_seam : (es : List Event) → StandsAt (es ++ e ∷ fs) (length es) e
-    stands_seam [] = refl
-    stands_seam (x ∷ es) = stands_seam es
 
 call_ends : (e : Event) (c : ℕ) → Ends e c → call_of e ≡ c
 call_ends e c ends = grind arith

@@ -1,8 +1,8 @@
 -- Histories event by event, and what their frontiers decide.
-use Rattle.histories.proofs.Words.{◌≡◌, ℕ, zero, suc, ◌+◌, ◌-◌, ◌<◌, ◌≤◌, List, [], ◌∷◌, ◌++◌, length, take, get_or, refl, sym, ◌∙◌, arith, inl, inr, Option, add-one, add-zero, take_all, cases_lt, take-append_seam, take_more, take-append-le, slice_get-get_or, Event, Begin, End, Crash, Config, Link, begins, times, IsExplained, IsHistory, MayFollow, Agrees, EndsOpen, IsFrontier, IsSound, order_of}
-use Rattle.histories.specs.Histories.{begun}
-use Rattle.histories.proofs.Counting.{not_some, split_times, times_same}
-use Rattle.histories.proofs.Events.{begin_no_end, begins_begin, begins_ends, begins_none, ends_one, sound_begin, sound_end, sound_none, stands_cases, stands_within}
+use Rattle.histories.proofs.Words.{[], ◌≡◌, ℕ, zero, suc, ◌+◌, ◌-◌, ◌<◌, ◌≤◌, List, ◌∷◌, ◌++◌, length, take, get_or, refl, sym, ◌∙◌, arith, inl, inr, Option, add-one, add-zero, take_all, cases_lt, take-append_seam, take_more, take-append-le, slice_get-get_or, Event, Begin, End, Crash, Config, Link, begins, times, IsExplained, IsHistory, MayFollow, Agrees, EndsOpen, IsFrontier, IsSound, order_of, ap, StandsAt, length-append, subst, take-append-add, IsQuiet, IsWellFormed}
+use Rattle.histories.specs.Histories.{begun, begins, times}
+use Rattle.histories.proofs.Lists.{not_some, split_times, times_same}
+use Rattle.histories.proofs.Events.{begin_no_end, begins_begin, begins_ends, begins_none, ends_one, sound_begin, sound_end, sound_none, stands_cases, stands_within, open_inside, stands_right, begins-append}
 use Rattle.histories.proofs.Running.{leads_split}
 use Rattle.histories.proofs.Frontiers.{explains_none}
 use Rattle.histories.proofs.Explaining.{explains_front, explains_open, explains_without}
@@ -186,3 +186,55 @@ history_more es e history may index event at =
 pub agrees_same : {S : Type 0} (Step : S → ℕ → S → Type 0) (events : List Event)
     → Agrees Step Step events
 agrees_same Step events call is old new = (λ x. x, λ x. x)
+
+-- what comes in a history where no call is open is well formed
+pub formed_inside : (es fs : List Event) → IsHistory (es ++ fs) → IsQuiet es → IsWellFormed fs
+formed_inside es fs history quiet p e at =
+    let r = stands_right _ _ _ _ at in
+    let front : List Event = es ++ take p fs in
+    let is : take r.0 (es ++ fs) ≡ front =
+    ap (λ n. take n (es ++ fs)) r.1 ∙ take-append-add es fs p in
+    let may : MayFollow front e = rw (← is) (history r.0 e r.2) in
+    let numbered : AreNumbered front =
+    subst (λ (l : List Event). AreNumbered l) is
+    (history_take _ history _ (omega (arith, stands_within (es ++ fs) r.0 e r.2))).1 in (
+      λ c begins. omega (
+        arith,
+        next_fresh front e numbered (next_of front e may) c begins,
+        begins-append c es (take p fs),
+      ),
+      λ c ends. open_inside _ _ _ quiet (ends_of _ _ may c ends),
+    )
+
+-- so is a history
+pub formed_history : (es : List Event) → IsHistory es → IsWellFormed es
+formed_history es history =
+    formed_inside [] es history (λ c some. absurd (omega (arith, some, begins_none c)))
+
+-- each call of it begins once
+pub sound_take : (es : List Event) → IsWellFormed es → (i : ℕ) → i ≤ length es → IsSound (take i es)
+sound_take es formed zero h = sound_none
+sound_take es formed (suc i) h =
+    let e = get_or es i (Begin 0) in
+    let this = formed i e (slice_get-get_or es i (Begin 0) (omega arith)) in
+    rw (← add-one, one_more es i (Begin 0) (omega arith))
+    (sound_more _ _ (sound_take es formed i (omega arith)) this.0 this.1)
+
+pub sound_formed : (es : List Event) → IsWellFormed es → IsSound es
+sound_formed es formed =
+    rw (← take_all (length es) es (omega arith)) (sound_take _ formed _ (omega arith))
+
+-- the first events are well formed
+pub formed_front : (es fs : List Event) → IsWellFormed (es ++ fs) → IsSound es
+formed_front es fs formed =
+    rw (← take-append_seam es fs) (sound_take _ formed _ (omega (arith, length-append es fs)))
+
+-- a call that begins next is new, and one that ends next is open
+pub formed_next : (es fs : List Event) (e : Event) → IsWellFormed (es ++ e ∷ fs)
+    → ((c : ℕ) → e ≡ Begin c → begins c es ≡ 0) × EndsOpen es e
+formed_next es fs e formed =
+    rw (← take-append_seam es (e ∷ fs)) (formed (length es) e (stands_seam es))
+  where
+    stands_seam : (es : List Event) → StandsAt (es ++ e ∷ fs) (length es) e
+    stands_seam [] = refl
+    stands_seam (x ∷ es) = stands_seam es

@@ -2,12 +2,12 @@
 use Rattle.std.specs.Prelude.{◌≡◌, ℕ, ◌+◌, ◌*◌, ◌^◌, ◌%◌, ◌<◌, ◌≤◌, ◌⊎◌, List, [], ◌∷◌, ◌++◌, length, get_or, AllPairs, Bool, true, false, Option, Some, None, bit_and, bit_or}
 use Rattle.std.specs.Int.{bit_at, bit_not, w64}
 use Rattle.std.specs.List.{Contains}
-use Rattle.histories.specs.declared.event.Event.{Event}
+use Rattle.histories.specs.declared.front.Event.{Event}
 use Rattle.histories.specs.declared.front.Config.{Config}
 use Rattle.histories.specs.declared.front.Link.{Link}
 use Rattle.histories.specs.declared.front.Front.{Front}
-use Rattle.histories.specs.declared.left.Left.{Left}
-use Rattle.histories.specs.declared.left.Left.TheVariants as left
+use Rattle.histories.specs.declared.machine.Left.{Left}
+use Rattle.histories.specs.declared.machine.Left.TheVariants as left
 use Rattle.histories.specs.Histories.{AreAll, begins, times, Explains, HasEnded, IsOpen}
 
 -- the set without the slot, and with it

@@ -1,8 +1,8 @@
--- Histories of calls that overlapped, and the orders that explain them.
-use Rattle.std.specs.Prelude.{◌≡◌, ◌≢◌, ℕ, ◌+◌, ◌<◌, ◌≤◌, ◌⊎◌, List, [], ◌∷◌, length, take, cond, eqb, Some, All, AllPairs, slice_get}
+-- Histories of calls that overlapped, the orders that explain them, and what holds of all.
+use Rattle.std.specs.Prelude.{◌≡◌, ◌≢◌, ℕ, ◌+◌, ◌<◌, ◌≤◌, ◌⊎◌, List, [], ◌∷◌, length, take, cond, eqb, Some, All, AllPairs, slice_get, ◌↔◌, zero, suc, ◌++◌}
 use Rattle.std.specs.List.{Contains}
-use Rattle.histories.specs.declared.event.Event.{Event}
-use Rattle.histories.specs.declared.event.Event.TheVariants.{Begin, End, Crash}
+use Rattle.histories.specs.declared.front.Event.{Event}
+use Rattle.histories.specs.declared.front.Event.TheVariants.{Begin, End, Crash}
 
 -- the list has each value that the fact is true of, and no other
 abbrev pub AreAll : {S : Type 0} → (S → Type 0) → List S → Type 0
@@ -95,3 +95,21 @@ abbrev pub IsHistory : List Event → Type 0
 IsHistory events =
     (index : ℕ) (event : Event) → StandsAt events index event
     → MayFollow (take index events) event
+
+-- so many calls, each of which ends before the next one begins
+unfoldable pub calls_alone : ℕ → List Event
+calls_alone zero = []
+calls_alone (suc count) = calls_alone count ++ Begin count ∷ End count ∷ []
+
+-- the calls by rising number
+unfoldable pub in_order : ℕ → List ℕ
+in_order zero = []
+in_order (suc count) = in_order count ++ count ∷ []
+
+-- Calls that overlap nothing are a run: one order alone explains them, that in which they were
+-- made, and it leads where they lead one after the other.
+abbrev pub CallsAloneAreRuns : {S : Type 0} → (S → ℕ → S → Type 0) → Type 0
+CallsAloneAreRuns {S} Step =
+    (count : ℕ) (old new : S) (order : List ℕ)
+    → Explains Step (calls_alone count) old order new
+    ↔ ((order ≡ in_order count) × Leads Step old (in_order count) new)

@@ -1,20 +1,21 @@
--- Windows of histories, and what is found of a history.
-use Rattle.std.specs.Prelude.{◌≡◌, ℕ, ◌+◌, ◌<◌, ◌⊎◌, ◌↔◌, List, ◌++◌, get_or, length, take, true, false}
+-- Windows of histories, what is found of a history, which calls are needed for it, and fronts that
+-- go on while replies are still to come.
+use Rattle.std.specs.Prelude.{◌≡◌, ℕ, ◌+◌, ◌<◌, ◌⊎◌, ◌↔◌, List, ◌++◌, get_or, length, take, true, false, Bool, not, filter, map}
 use Rattle.std.specs.List.{Contains}
-use Rattle.histories.specs.declared.event.Event.{Event}
-use Rattle.histories.specs.declared.event.Event.TheVariants.{End}
+use Rattle.histories.specs.declared.front.Event.{Event}
+use Rattle.histories.specs.declared.front.Event.TheVariants.{End, Begin, Crash}
 use Rattle.histories.specs.declared.front.Config.{Config}
 use Rattle.histories.specs.declared.front.Front.{Front}
-use Rattle.histories.specs.Advances.{BeginsAnew, IsQuiet}
-use Rattle.histories.specs.Histories.{Explains, IsExplained, IsHistory, StandsAt}
-use Rattle.histories.specs.Frontier.{HasManyOpen, HasManyOrders, IsFrontOf, IsSound, order_of}
+use Rattle.histories.specs.Advances.{BeginsAnew, IsQuiet, EndsOpen, IsMadeAlone, IsSameFront}
+use Rattle.histories.specs.Histories.{Explains, IsExplained, IsHistory, StandsAt, begins, begun, IsOpen}
+use Rattle.histories.specs.Frontier.{HasManyOpen, HasManyOrders, IsFrontOf, IsSound, order_of, IsIdle}
 use Rattle.histories.specs.declared.window.Cut.{Cut}
-use Rattle.histories.specs.declared.window.Cut.TheVariants as cut
 use Rattle.histories.specs.declared.window.Stop.{Stop}
-use Rattle.histories.specs.declared.window.Stop.TheVariants as stop
 use Rattle.histories.specs.declared.window.Verdict.{Verdict}
-use Rattle.histories.specs.declared.window.Verdict.TheVariants as verdict
 use Rattle.histories.specs.declared.window.Window.{Window}
+use Rattle.histories.specs.declared.window.Cut.TheVariants as cut
+use Rattle.histories.specs.declared.window.Stop.TheVariants as stop
+use Rattle.histories.specs.declared.window.Verdict.TheVariants as verdict
 
 -- The events are cut here: no call is open after the first ones, and an order explains all,
 -- whatever comes behind them, exactly where one explains what comes behind from one of these
@@ -117,3 +118,133 @@ BeginsWindow Step count old new =
 abbrev pub CutsAt : {S : Type 0} → (S → ℕ → S → Type 0) → Cut → ℕ → Window S → Window S → Type 0
 CutsAt Step cut.WhereQuiet count old new = BeginsWindow Step count old new
 CutsAt Step cut.Never count old new = new ≡ old
+
+-- the call that the event is of
+abbrev pub call_of : Event → ℕ
+call_of (Begin call) = call
+call_of (End call) = call
+call_of (Crash call) = call
+
+-- the events of the calls that are kept
+abbrev pub events_of : (ℕ → Bool) → List Event → List Event
+events_of kept events = filter (λ e. kept (call_of e)) events
+
+-- each call that is left out changes nothing, in whatever state it is made
+abbrev pub LeavesOutIdle : {S : Type 0} → (S → ℕ → S → Type 0) → (ℕ → Bool) → Type 0
+LeavesOutIdle Step kept = (call : ℕ) → kept call ≡ false → IsIdle Step call
+
+-- No order explains the events of the calls that are kept, and each other call changes nothing.
+pub record IsRest {S : Type 0} (Step : S → ℕ → S → Type 0) (olds : List S) (events : List Event)
+    (kept : ℕ → Bool) : Type 0 where
+  pub refused : ¬ (IsExplained Step (events_of kept events) olds)
+  pub others : LeavesOutIdle Step kept
+
+-- The calls are needed, so that the events in the window are refused: from the states that were
+-- left where it begins, no order explains the events of these calls in it, and each other call
+-- changes nothing.
+pub record AreNeeded {S : Type 0} (Step : S → ℕ → S → Type 0) (olds : List S)
+    (past window : List Event) (kept : ℕ → Bool) : Type 0 where
+  pub states : List S
+  pub cut : IsCut Step olds past states
+  pub rest : IsRest Step states window kept
+
+-- Where calls that change nothing are left out, an order that explains all, without them, explains
+-- the rest.
+abbrev pub OrdersExplainTheRest : {S : Type 0} → (S → ℕ → S → Type 0) → Type 0
+OrdersExplainTheRest {S} Step =
+    (kept : ℕ → Bool) (events : List Event) (old new : S) (order : List ℕ)
+    → LeavesOutIdle Step kept → Explains Step events old order new
+    → Explains Step (events_of kept events) old (filter kept order) new
+
+-- so where no order explains the rest, none explains all
+abbrev pub RefusedRestsRefuse : {S : Type 0} → (S → ℕ → S → Type 0) → Type 0
+RefusedRestsRefuse {S} Step =
+    (kept : ℕ → Bool) (events : List Event) (olds : List S) → IsRest Step olds events kept
+    → ¬ (IsExplained Step events olds)
+
+-- the history is cut after these events, from some states
+abbrev pub HasCut : {S : Type 0} → (S → ℕ → S → Type 0) → List S → List Event → Type 0
+HasCut {S} Step olds past = (states : List S) × IsCut Step olds past states
+
+-- the call of this number is not left out
+abbrev pub is_kept : List Bool → ℕ → Bool
+is_kept left_out call = not (get_or left_out call false)
+
+-- the states of the configurations
+abbrev pub states_of : {S : Type 0} → List (Config S) → List S
+states_of {S} configs = map (λ (c : Config S). c.state) configs
+
+-- each of these calls changes nothing, in whatever state it is made
+abbrev pub AreIdle : {S : Type 0} → (S → ℕ → S → Type 0) → List Bool → Type 0
+AreIdle Step calls = (call : ℕ) → get_or calls call false ≡ true → IsIdle Step call
+
+-- each call begins once, and one that is open ends
+abbrev pub IsWellFormed : List Event → Type 0
+IsWellFormed events =
+    (index : ℕ) (event : Event) → StandsAt events index event
+    → ((call : ℕ) → event ≡ Begin call → begins call (take index events) ≡ 0)
+    × EndsOpen (take index events) event
+
+-- The events are a history, and end in the window. So they and those before the window are sound,
+-- and calls are numbered by their begins.
+pub record GoesTo {S : Type 0} (Step : S → ℕ → S → Type 0) (olds : List S) (events : List Event)
+    (window : Window S) : Type 0 where
+  pub is : IsWindowOf Step olds events window
+  pub history : IsHistory events
+  pub first : IsSound is.past
+  pub whole : IsSound events
+  pub numbered : (call : ℕ) → 0 < begins call events → call < begun events
+
+-- the events end in a window with this front
+abbrev pub IsFrontAfter : {S : Type 0} → (S → ℕ → S → Type 0) → List S → List Event → Front S →
+    Type 0
+IsFrontAfter Step olds events front =
+    (begin : ℕ) × GoesTo Step olds events (record { begin = begin; front = front })
+
+-- of the calls that are open after the first events, or begin in the others, the machine makes each
+-- as the history has it
+abbrev pub AgreesOn : {S : Type 0} → (S → ℕ → S → Type 0) → (S → ℕ → S → Type 0) → List Event
+    → List Event → Type 0
+AgreesOn {S} Made Step past events =
+    (call : ℕ) → (IsOpen past call ⊎ (0 < begins call events))
+    → (old new : S) → Made old call new ↔ Step old call new
+
+-- the call that begins at this index is answered next, and both events were followed; or nothing
+-- changed
+abbrev pub IsMadeNext : {M S : Type 0} → (M → S → ℕ → S → Type 0) → M → List Event → ℕ → Front S
+    → Front S → Bool → Type 0
+IsMadeNext Step machine events at old new true =
+    (call : ℕ) × StandsAt events at (Begin call) × StandsAt events (at + 1) (End call)
+    × IsMadeAlone Step machine old call new true
+IsMadeNext Step machine events at old new false = IsSameFront old new
+
+-- a history whose first events the front is of, and that goes on with the others
+pub record Precedes {M S : Type 0} (Step : M → S → ℕ → S → Type 0) (machine : M)
+    (front : Front S) (events : List Event) (whole : M) (past : List Event) (olds : List S)
+    : Type 0 where
+  pub history : IsHistory (past ++ events)
+  pub agrees : AgreesOn (Step machine) (Step whole) past events
+  pub front_of : IsFrontAfter (Step whole) olds past front
+
+-- there is one
+abbrev pub HasPast : {M S : Type 0} → (M → S → ℕ → S → Type 0) → M → Front S → List Event → Type 0
+HasPast {M} {S} Step machine front events =
+    (whole : M) × (past : List Event) × (olds : List S)
+    × Precedes Step machine front events whole past olds
+
+-- of each such history the new front is that of the first events and of so many of the others
+abbrev pub GoesOnTo : {M S : Type 0} → (M → S → ℕ → S → Type 0) → M → Front S → List Event
+    → ℕ → Front S → Type 0
+GoesOnTo {M} {S} Step machine old events at new =
+    (whole : M) (past : List Event) (olds : List S)
+    → Precedes Step machine old events whole past olds
+    → IsFrontAfter (Step whole) olds (past ++ take at events) new
+
+-- the front has gone on with all events, or orders do not lead on
+abbrev pub GoesOn : {M S : Type 0} → (M → S → ℕ → S → Type 0) → M → Front S → List Event
+    → Front S → Bool → Type 0
+GoesOn {M} {S} Step machine old events new true =
+    (whole : M) (past : List Event) (olds : List S)
+    → Precedes Step machine old events whole past olds
+    → IsFrontAfter (Step whole) olds (past ++ events) new
+GoesOn Step machine old events new false = Unit {0}

@@ -1,19 +1,63 @@
-//! A call that ends is made.
+//! Calls that wait are made: those that change nothing at once, and one that ends.
 ghost use Rattle.std.specs.Prelude.{◌≡◌, ◌<◌, ◌≤◌, ◌++◌, ◌∷◌, [], ℕ, IfNone, IfOk, IfSome, IsTrue, OnOk, length};
 ghost use Rattle.std.specs.Int.{bit_at};
 ghost use Rattle.histories.specs.Frontier.{HasSlot, IsWaiting};
-ghost use Rattle.histories.specs.Gathering.{FromOne, Gathers, GoesOn, IsAlone, IsBeside, IsCloseOutcome, IsClosedInPlace, IsCopy, IsDone, IsDropped, IsMadeFirst, IsMadeIn, IsNextAt, IsNextIn, MovesFirst, Settles, WaitsInNone};
+ghost use Rattle.histories.specs.Gathering.{FromOne, Gathers, GoesOn, IsAlone, IsBeside, IsCloseOutcome, IsClosedInPlace, IsCopy, IsDone, IsDropped, IsMadeFirst, IsMadeIn, IsNextAt, IsNextIn, IsSettled, MovesFirst, Settles, WaitsInNone, spot_of};
 
 use super::front::{Config, MAX_CONFIGS};
 use super::gather::{Gathered, add};
-use super::left::Left;
-use super::machine::Machine;
-use super::settle::settle;
+use super::machine::{Left, Machine};
 use super::slots::{ALL, has, without};
 use std::alloc::{AllocError, Global};
 
 /// The capacity that is left for calls that are made later in the same step.
 const SPARE: usize = 4;
+
+/// Makes the call in the slot, if it is tried, waits, can be made, and changes nothing.
+#[tactic(auto, using(crate::proofs::Closing::path_is, crate::proofs::Alone::settled_call))]
+fn settle_slot<M: Machine>(
+    machine: &M,
+    slots: &[Option<usize>],
+    tried: u64,
+    slot: usize,
+    settled: &mut Config<M::State>,
+) -> Result<(), AllocError>
+    requires few { length slots.now ≤ 64 }
+    requires within { slot < length slots.now }
+    ensures { OnOk result (IsSettled (M.Step machine.now) slots.now (spot_of settled.old)
+        (spot_of settled.new)) }
+{
+    if !has(tried, slot) {
+        return Ok(());
+    }
+    let Some(call) = slots[slot] else {
+        return Ok(());
+    };
+    if !has(settled.waiting, slot) || !machine.is_idle(&settled.state, call) {
+        return Ok(());
+    }
+    settled.made.push(call)?;
+    settled.waiting = without(settled.waiting, slot);
+    Ok(())
+}
+
+/// Makes those of the calls in the slots of the set that can be made and change nothing.
+#[tactic(auto, using(crate::proofs::Alone::settled_none, crate::proofs::Alone::settled_then))]
+pub fn settle<M: Machine>(
+    machine: &M,
+    slots: &[Option<usize>],
+    tried: u64,
+    config: &mut Config<M::State>,
+) -> Result<(), AllocError>
+    requires few { length slots.now ≤ 64 }
+    ensures { OnOk result (IsSettled (M.Step machine.now) slots.now (spot_of config.old)
+        (spot_of config.new)) }
+{
+    for slot in 0..slots.len() {
+        settle_slot(machine, slots, tried, slot, config)?;
+    }
+    Ok(())
+}
 
 /// The calls with one more.
 fn with_call(alloc: Global, calls: &[usize], call: usize) -> Result<Vec<usize>, AllocError>
@@ -317,7 +361,7 @@ fn make_calls<M: Machine>(
 
 /// Adds the configuration to those that are done where the call in the slot has been made there.
 /// Else adds the configurations to which one more call leads to the next ones.
-#[tactic(auto, using(crate::proofs::Bits::bit_none, crate::proofs::Closing::goes_not, crate::proofs::Gathering::gathers_done, crate::proofs::Gathering::gathers_not_done))]
+#[tactic(auto, using(crate::proofs::Running::bit_none, crate::proofs::Closing::goes_not, crate::proofs::Gathering::gathers_done, crate::proofs::Gathering::gathers_not_done))]
 fn close_one<M: Machine>(
     alloc: Global,
     machine: &M,

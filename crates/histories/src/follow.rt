@@ -2,11 +2,9 @@
 ghost use Rattle.std.specs.Prelude.{◌≡◌, ◌<◌, IfErr, IfOk, OnOk, length, []};
 ghost use Rattle.histories.specs.Frontier.{IsFrontOf};
 ghost use Rattle.histories.specs.Histories.{IsExplained, IsHistory};
-ghost use Rattle.histories.specs.Goings.{IsMadeNext, GoesOn, HasPast, IsFrontAfter};
-ghost use Rattle.histories.specs.Windows.{CutsAt, IsStop, IsWindowOf};
+ghost use Rattle.histories.specs.Windows.{CutsAt, GoesOn, HasPast, IsFrontAfter, IsMadeNext, IsStop, IsWindowOf};
 
-use super::event::Event;
-use super::front::{Advance, Front};
+use super::front::{Advance, Event, Front};
 use super::gather::start;
 use super::machine::Machine;
 use super::step::{advance, begin_anew, make_alone};

@@ -209,6 +209,7 @@ fn is_among<M: Machine>(
 }
 
 /// The same, where the first ones are in chains.
+#[tactic(auto, using(crate::proofs::Chains::known_there))]
 fn is_known<M: Machine>(
     machine: &M,
     configs: &[Config<M::State>],

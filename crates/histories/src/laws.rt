@@ -1,7 +1,6 @@
 //! What holds of all histories.
-ghost use Rattle.histories.specs.Laws.{CallsAloneAreRuns};
-ghost use Rattle.histories.specs.Needed.{OrdersExplainTheRest, RefusedRestsRefuse};
-ghost use Rattle.histories.specs.Windows.{VerdictsExclude};
+ghost use Rattle.histories.specs.Histories.{CallsAloneAreRuns};
+ghost use Rattle.histories.specs.Windows.{OrdersExplainTheRest, RefusedRestsRefuse, VerdictsExclude};
 
 use super::machine::Machine;
 

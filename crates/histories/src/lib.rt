@@ -4,27 +4,20 @@
 #![tactic(auto)]
 
 mod close;
-mod event;
 mod follow;
 mod front;
 mod gather;
 pub mod laws;
-mod left;
-mod links;
 mod machine;
 mod needed;
-mod settle;
 mod slots;
 mod step;
 mod window;
 
-pub use event::Event;
 pub use follow::{first_front, go_on};
-pub use front::{Advance, Config, Front, Link, MAX_CONFIGS, MAX_OPEN};
+pub use front::{Advance, Config, Event, Front, Link, MAX_CONFIGS, MAX_OPEN, order_up_to};
 pub use gather::start;
-pub use left::Left;
-pub use links::order_up_to;
-pub use machine::Machine;
+pub use machine::{Left, Machine};
 pub use needed::{MAX_TRIED, calls_left_out, is_kept};
 pub use step::{advance, begin_anew, make_alone};
 pub use window::{Cut, Stop, Verdict, Window, judge_windows, order_in};

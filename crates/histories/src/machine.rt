@@ -3,8 +3,18 @@ ghost use Rattle.std.specs.Prelude.{◌≡◌, ◌↔◌, ℕ, IfOk, IsTrue};
 ghost use Rattle.histories.specs.Frontier.{IsIdle, IsMade, MovesBefore, states_in};
 ghost use Rattle.histories.specs.Histories.{AreEnough};
 
-use super::left::Left;
 use std::alloc::AllocError;
+
+/// States that a call may leave.
+#[derive(Drop)]
+pub enum Left<S> {
+    /// None: it cannot be made.
+    Nothing,
+    /// This one alone.
+    One(S),
+    /// These, if they are all, or else more than are followed.
+    All(Vec<S>),
+}
 
 /// Recorded calls. A call is named by its number.
 pub trait Machine {

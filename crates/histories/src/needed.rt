@@ -2,13 +2,10 @@
 ghost use Rattle.std.specs.Prelude.{◌≡◌, ◌<◌, ◌++◌, IfOk, IfSome, IsTrue, OnOk, length};
 ghost use Rattle.histories.specs.Frontier.{IsIdle};
 ghost use Rattle.histories.specs.Histories.{IsExplained, IsHistory};
-ghost use Rattle.histories.specs.Windows.{IsCut};
-ghost use Rattle.histories.specs.Needed.{AreIdle, AreNeeded, HasCut, IsRest, IsWellFormed};
-ghost use Rattle.histories.specs.Needed.{call_of, events_of, is_kept, states_of};
+ghost use Rattle.histories.specs.Windows.{AreIdle, AreNeeded, HasCut, IsCut, IsRest, IsWellFormed, call_of, events_of, is_kept, states_of};
 
-use super::event::Event;
 use super::follow::follow;
-use super::front::{Advance, Config};
+use super::front::{Advance, Config, Event};
 use super::gather::start;
 use super::machine::Machine;
 use super::step::advance;

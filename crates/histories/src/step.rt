@@ -1,17 +1,14 @@
 //! One event more, and where no call is open: a call that overlaps nothing, and a new beginning.
 ghost use Rattle.std.specs.Prelude.{◌<◌, ◌≤◌, [], IfOk, OnOk, length};
-ghost use Rattle.histories.specs.declared.event.Event.TheVariants.{Begin, End, Crash};
+ghost use Rattle.histories.specs.declared.front.Event.TheVariants.{Begin, End, Crash};
 ghost use Rattle.histories.specs.Advances.{BeginsAnew, EndsInPlace, IsAdvance, IsMadeAlone};
 ghost use Rattle.histories.specs.Frontier.{HasSlot};
 ghost use Rattle.histories.specs.Gathering.{AreEach, Finishes, FromOne, IsBegun, IsOpened, IsUnlinked, LaysOut, Settles};
 
-use super::close::{close, close_in_place, dropped_all, make_in};
-use super::event::Event;
-use super::front::{Advance, Config, Front, MAX_CONFIGS};
+use super::close::{close, close_in_place, dropped_all, make_in, settle};
+use super::front::{Advance, Config, Event, Front, MAX_CONFIGS, lay_all};
 use super::gather::{Gathered, add, joined};
-use super::links::lay_all;
 use super::machine::Machine;
-use super::settle::settle;
 use super::slots::{are_free, free, slot_of, take_slot, with};
 use std::alloc::{AllocError, Global};
 use std::mem;
@@ -61,7 +58,7 @@ fn open_all<M: Machine>(
 }
 
 /// The calls that were made go into the links. Returns what was done.
-#[tactic(auto, using(crate::proofs::Indices::put_back))]
+#[tactic(auto, using(crate::proofs::Lists::put_back))]
 fn lay<S>(front: &mut Front<S>) -> Result<Advance, AllocError>
     ensures { IfOk result (LaysOut front.old front.new) }
 {
@@ -215,6 +212,7 @@ pub fn advance<M: Machine>(
 /// nothing changed, and `advance` goes on with both events.
 ///
 /// Where memory was refused, the front is of no history any more.
+#[tactic(auto, using(crate::proofs::Alone::made_none))]
 pub fn make_alone<M: Machine>(
     machine: &M,
     front: &mut Front<M::State>,

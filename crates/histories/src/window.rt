@@ -3,10 +3,8 @@ ghost use Rattle.std.specs.Prelude.{◌≡◌, ◌<◌, IfOk, length};
 ghost use Rattle.histories.specs.Histories.{IsHistory};
 ghost use Rattle.histories.specs.Windows.{IsFirstOrder, IsStop, IsVerdict, IsWhole};
 
-use super::event::Event;
 use super::follow::follow;
-use super::front::Front;
-use super::links::order_up_to;
+use super::front::{Event, Front, order_up_to};
 use super::machine::Machine;
 use std::alloc::{AllocError, Global};
 
@@ -57,7 +55,7 @@ pub enum Stop {
 
 /// The order of the first configuration of the window: the calls since it began, one after the
 /// other, as they take effect. A call that was never answered is among them where it did.
-#[tactic(auto, using(crate::proofs::Indices::order_first))]
+#[tactic(auto, using(crate::proofs::Lists::order_first))]
 pub fn order_in<S>(alloc: Global, window: &Window<S>) -> Result<Vec<usize>, AllocError>
     requires { 0 < length window.now.front.configs.items }
     ensures { IfOk result (λ order. IsFirstOrder window.now.front order.items) }

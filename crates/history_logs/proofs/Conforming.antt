@@ -3,10 +3,10 @@ use Rattle.history_logs.proofs.Words.{All, All-nil, AreNumbers, AreRightShort, A
 use Rattle.histories.specs.Histories.{begun}
 use Rattle.std.proofs.Common.{get_or-set_other, get_or-set_same, sum}
 use Rattle.std.specs.Set.{distinct_count}
-use Rattle.histories.proofs.Counting.{not_some}
+use Rattle.histories.proofs.Lists.{not_some}
 use Rattle.histories.proofs.Events.{begins_none}
 use Rattle.histories.proofs.Frontiers.{explains_none}
-use Rattle.histories.proofs.Growing.{goes_explained}
+use Rattle.histories.proofs.Following.{goes_explained}
 use Rattle.service_conformance.specs.Looks.{unwatched}
 use Rattle.history_logs.specs.Logs.{Judged}
 use Rattle.history_logs.specs.Settling.{IsRightShort, IsShortLog}

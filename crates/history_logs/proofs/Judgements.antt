@@ -7,9 +7,8 @@ use Rattle.history_logs.specs.declared.logs.verdict.Verdict.TheVariants.{BadLine
 use Rattle.std.specs.Prelude.{MatchOption}
 use Rattle.history_logs.specs.Logs.{HasGood, IsRefusal, Judged, RefusesIn, RefusesNoneIn, StopsAt}
 use Rattle.histories.specs.Frontier.{IsFrontOf}
-use Rattle.histories.proofs.Counting.{times_at}
+use Rattle.histories.proofs.Lists.{first_explains, times_at}
 use Rattle.histories.specs.Windows.{IsFirstOrder, IsOrder}
-use Rattle.histories.proofs.Indices.{first_explains}
 use Rattle.history_logs.specs.declared.logs.verdict.Order.{Order}
 use Rattle.history_logs.specs.Judging.{AreOrdered, IsFoundByAll, is_refused}
 use Rattle.history_logs.specs.Orders.{IsOrderOf}

@@ -2,10 +2,10 @@
 -- start, so none is refused.
 use Rattle.history_logs.proofs.Words.{All-push, AllZip, Answers, AreLines, AreLinesTo, AreNeededLines, Begin, Bool, Contains, Contains-append_left, Contains-push, Crash, End, Event, HasEventLines, HasSlot, IsCommandOf, IsExplained, IsLine, IsLineAt, IsOpen, IsOrderly, IsRefusedIn, IsReported, IsSaidIn, IsStop, IsTrue, IsWindowOf, Judged, Line, List, None, Option, Part, Refusal, Service, Some, StandsAt, StepOf, Watched, Window, [], all_pairs_push, ap, arith, begins, begins-append, cases_lt, drop, false, get_or, get_or_from_slice_get, inl, inr, length, length-append, length-take-le, line_text, listed, news, one_more, refl, same_Some, slice_get, slice_get_read, slice_get_within, starts, stops, subst, sym, take, take-append-drop, take_more, times_one, ℕ, ◌++◌, ◌+◌, ◌<◌, ◌∙◌, ◌∷◌, ◌≡◌, ◌≤◌, ◌⊎◌}
 use Rattle.histories.specs.Histories.{Explains, IsOver, times}
-use Rattle.histories.proofs.Counting.{times-append, times_same}
+use Rattle.histories.proofs.Lists.{times-append, times_same}
 use Rattle.histories.proofs.Events.{over_ended}
 use Rattle.histories.proofs.Explaining.{explains_end}
-use Rattle.histories.proofs.Running.{leads_push}
+use Rattle.histories.proofs.Running.{bit_cases, leads_push, slot_once, slot_within}
 use Rattle.histories.specs.declared.window.Stop.TheVariants as stop
 use Rattle.service_conformance.specs.Judged.{AreJudgedReplies, JudgedStep, words_of}
 use Rattle.service_conformance.specs.Judged.Judged.{call}
@@ -13,7 +13,6 @@ use Rattle.service_conformance.specs.Looks.{look_of, looks_after}
 use Rattle.std.proofs.Common.{IsPermutation}
 use Rattle.std.specs.Int.{bit_at}
 use Rattle.std.proofs.lemmas.List.Sorted.{All-permutation, Contains-permutation}
-use Rattle.histories.proofs.Bits.{bit_cases, slot_once, slot_within}
 use Rattle.histories.specs.declared.front.Config.{Config}
 use Rattle.history_logs.specs.Judging.{AreBelow, IsLineMade}
 use Rattle.history_logs.specs.declared.logs.verdict.Configuration.{Configuration}

@@ -2,7 +2,7 @@
 use Rattle.history_logs.proofs.Words.{All, All-push, All-set, Begin, Begins, Begun, Crash, End, Event, GoesOn, HasEnded, IsExplained, IsKept, IsOpen, IsOrderly, IsSeenRightly, Judged, Line, List, Log, NamedCommand, None, Option, Part, SeenReply, Service, Some, StepOf, Watched, [], ap, arith, begins, called, calls_answered, calls_shown, cases_eq, command, get_set_other, inl, inr, judged_answered, length, length-append, length_push, news, numbered, option_and_then, option_map, refl, same_Some, shown, slice_get, slice_get_within, slice_set, start_of, started, starting, starts, stopped, stopping, stops, subst, sym, take, take-append_seam, take_all, unseen, weak, with_alone, with_begin, with_end, with_look, with_over, with_part, ℕ, ◌++◌, ◌+◌, ◌<◌, ◌∙◌, ◌∷◌, ◌≡◌}
 use Rattle.std.specs.Prelude.{Bool, true}
 use Rattle.histories.proofs.Events.{ended_now, ended_still}
-use Rattle.histories.proofs.Passing.{explained_seen}
+use Rattle.histories.proofs.Explaining.{explained_seen}
 use Rattle.histories.proofs.Verdicts.{explained_take}
 use Rattle.iox2_dynamic.specs.Service as dynamic
 use Rattle.service_conformance.proofs.Fewer.{IsFewer, fewer_step, hiding, is_shown}

@@ -1,11 +1,11 @@
 -- The words of specs and of std that proofs use.
-pub use Rattle.histories.proofs.Counting.{times_one}
+pub use Rattle.histories.proofs.Lists.{times_one}
 pub use Rattle.histories.proofs.Events.{begins-append, stands_begins, stands_take}
 pub use Rattle.histories.proofs.Verdicts.{begun_none, counts_begin, counts_crash, counts_end, one_more}
 pub use Rattle.histories.specs.Frontier.{HasSlot}
 pub use Rattle.histories.specs.Histories.{HasEnded, IsExplained, IsHistory, IsOpen, MayFollow, StandsAt, begins, begun}
-pub use Rattle.histories.specs.declared.event.Event.{Event}
-pub use Rattle.histories.specs.declared.event.Event.TheVariants.{Begin, Crash, End}
+pub use Rattle.histories.specs.declared.front.Event.{Event}
+pub use Rattle.histories.specs.declared.front.Event.TheVariants.{Begin, Crash, End}
 pub use Rattle.histories.specs.declared.front.Front.{Front}
 pub use Rattle.history_logs.specs.EventLines.{Answers, HasCommand, HasEventLines, IsCommandOf, IsLineAt, IsSaidIn}
 pub use Rattle.history_logs.specs.Fields.{AreNumbers, log_of, numbers_in, waits_in}
@@ -24,9 +24,7 @@ pub use Rattle.history_logs.specs.declared.logs.verdict.Expected.{Expected}
 pub use Rattle.history_logs.specs.declared.logs.verdict.Refusal.{Refusal}
 pub use Rattle.history_logs.specs.declared.logs.verdict.Verdict.{Verdict}
 pub use Rattle.history_logs.specs.declared.logs.verdict.Verdict.TheVariants.{Conforms, ManyConfigs, ManyOpen, Refused}
-pub use Rattle.histories.specs.Goings.{IsFrontAfter}
-pub use Rattle.histories.specs.Needed.{events_of, is_kept}
-pub use Rattle.histories.specs.Windows.{IsStop, IsWindowOf}
+pub use Rattle.histories.specs.Windows.{IsFrontAfter, IsStop, IsWindowOf, events_of, is_kept}
 pub use Rattle.histories.specs.declared.window.Stop.{Stop}
 pub use Rattle.histories.specs.declared.window.Window.{Window}
 pub use Rattle.iox2_container.proofs.Lists.{get_set_other}

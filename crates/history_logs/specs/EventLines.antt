@@ -1,6 +1,6 @@
 -- Where the events of a service, and the commands of its calls, stand in a log.
 use Rattle.std.specs.Prelude.{◌≡◌, ◌⊎◌, ◌<◌, ◌≤◌, ℕ, zero, suc, List, ◌∷◌, ◌++◌, All, AllPairs, IsTrue, Some, codes, slice_get}
-use Rattle.histories.specs.declared.event.Event.TheVariants.{End}
+use Rattle.histories.specs.declared.front.Event.TheVariants.{End}
 use Rattle.histories.specs.Histories.{StandsAt}
 use Rattle.line_streams.specs.Spelling.{HasNo}
 use Rattle.log_lines.specs.Lines.{IsLine, Line, is_note, line_text}

@@ -2,8 +2,8 @@
 use Rattle.std.specs.Prelude.{◌≡◌, ◌&&◌, ◌||◌, ℕ, ◌<◌, List, All, Bool, Contains, Option, Some, None, Result, Ok, Err, false, if◌then◌else◌, length, ltb, not, slice_get, sum_by, true}
 use Rattle.std.specs.List.{AllZip}
 use Rattle.std.specs.Int.{bit_at}
-use Rattle.histories.specs.declared.event.Event.{Event}
-use Rattle.histories.specs.declared.event.Event.TheVariants.{Begin}
+use Rattle.histories.specs.declared.front.Event.{Event}
+use Rattle.histories.specs.declared.front.Event.TheVariants.{Begin}
 use Rattle.histories.specs.Frontier.{HasSlot, IsFrontOf}
 use Rattle.histories.specs.Histories.{StandsAt}
 use Rattle.histories.specs.declared.window.Cut.{Cut}

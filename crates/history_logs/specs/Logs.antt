@@ -3,16 +3,15 @@ use Rattle.std.specs.Prelude.{◌≡◌, ◌≢◌, ◌⊎◌, ◌==◌, ℕ, ze
 use Rattle.std.specs.List.{AllZip, dedup, flat_map}
 use Rattle.std.specs.Int.{bit_at}
 use Rattle.std.specs.Set.{distinct_count}
-use Rattle.histories.specs.declared.event.Event.{Event}
-use Rattle.histories.specs.declared.event.Event.TheVariants.{Begin, Crash, End}
+use Rattle.histories.specs.declared.front.Event.{Event}
+use Rattle.histories.specs.declared.front.Event.TheVariants.{Begin, Crash, End}
 use Rattle.histories.specs.declared.front.Config.{Config}
 use Rattle.histories.specs.Frontier.{HasSlot}
 use Rattle.histories.specs.Histories.{IsExplained, StandsAt}
 use Rattle.histories.specs.declared.window.Stop.{Stop}
 use Rattle.histories.specs.declared.window.Stop.TheVariants as stop
 use Rattle.histories.specs.declared.window.Window.{Window}
-use Rattle.histories.specs.Needed.{AreNeeded, events_of}
-use Rattle.histories.specs.Windows.{IsStop, IsWindowOf}
+use Rattle.histories.specs.Windows.{AreNeeded, IsStop, IsWindowOf, events_of}
 use Rattle.iox2_container.specs.Steps.{listed}
 use Rattle.line_streams.specs.Spelling.{HasNo}
 use Rattle.log_lines.specs.declared.form.LogForm.{LogForm}

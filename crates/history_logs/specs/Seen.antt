@@ -1,8 +1,8 @@
 -- What was seen of a service.
 use Rattle.std.specs.Prelude.{◌≡◌, ◌⊎◌, ◌+◌, ◌-◌, ◌≤◌, ℕ, drop, replicate, zero, suc, List, [], ◌∷◌, ◌++◌, Option, Some, None, get_or, length, option_and_then, slice_get}
 use Rattle.std.specs.List.{slice_set}
-use Rattle.histories.specs.declared.event.Event.{Event}
-use Rattle.histories.specs.declared.event.Event.TheVariants.{Begin, End, Crash}
+use Rattle.histories.specs.declared.front.Event.{Event}
+use Rattle.histories.specs.declared.front.Event.TheVariants.{Begin, End, Crash}
 use Rattle.iox2_container.specs.declared.container.handle.Role.{Role}
 use Rattle.iox2_container.specs.declared.container.handle.Role.TheVariants as role
 use Rattle.iox2_container.specs.State.{Handle}

@@ -1,11 +1,11 @@
 -- What is kept of a log that is judged while it is read, and what settles of it meanwhile.
 use Rattle.std.specs.Prelude.{◌≡◌, ◌+◌, ◌<◌, ◌≤◌, ◌⊎◌, [], ℕ, All, List, ◌++◌, Option, Some, None, get_or, length, slice_get, take}
-use Rattle.histories.specs.declared.event.Event.{Event}
-use Rattle.histories.specs.declared.event.Event.TheVariants.{Begin}
+use Rattle.histories.specs.declared.front.Event.{Event}
+use Rattle.histories.specs.declared.front.Event.TheVariants.{Begin}
 use Rattle.histories.specs.declared.front.Front.{Front}
 use Rattle.histories.specs.Frontier.{HasSlot}
 use Rattle.histories.specs.Histories.{HasEnded, StandsAt, begins, begun}
-use Rattle.histories.specs.Goings.{IsFrontAfter}
+use Rattle.histories.specs.Windows.{IsFrontAfter}
 use Rattle.service_conformance.specs.Judged.{Judged, WindowStep}
 use Rattle.service_conformance.specs.Looks.{Watched}
 use Rattle.history_logs.specs.Good.{IsAbove, IsOrderly}

@@ -1,8 +1,8 @@
 -- Calls that overlap nothing are runs.
 use Rattle.service_conformance.proofs.Names.{AllByRecursion, List, None, Option, Some, [], ap, arith, length, map, range_with_len, refl, slice_get, subst, suc, sym, zero, ℕ, ◌++◌, ◌+◌, ◌<◌, ◌^◌, ◌↔◌, ◌∙◌, ◌∷◌, ◌≡◌, same_Some, Answered, Call, CallStep, Command, First, Gives, Handle, IsBare, IsBounded, IsBoundedRegistry, IsExplained, IsRegistry, IsService, Judged, JudgedStep, KeepsHandles, Leads, MayGive, PortDetails, RegistryState, Reply, Run, Second, Serves, Service, ServiceStep, Side, State, Watched, WindowStep, added_role, answered, at_first, call, call_of, calls_alone, cons_same, handle_for, handle_in, handle_named, judged_of, ports_at, quiet, quiet_state, role_at, role_of, text_of, unwatched}
-use Rattle.histories.specs.Laws.{in_order}
+use Rattle.histories.specs.Histories.{in_order}
 use Rattle.histories.proofs.Alone.{calls_alone_are_runs}
-use Rattle.histories.proofs.Indices.{only}
+use Rattle.histories.proofs.Lists.{only}
 use Rattle.iox2_container.proofs.Histories.{Grows}
 use Rattle.service_descriptions.specs.declared.replay.machine.command.Command.TheVariants as command
 use Rattle.service_descriptions.specs.declared.replay.machine.reply.Reply.TheVariants as reply

@@ -1,7 +1,7 @@
 -- What is judged leads from one state to another.
 use Rattle.service_conformance.proofs.Names.{All-map, All-weaker, AllocError, Bool, Contains, Err, IfOk, List, Ok, Result, [], ap, arith, false, length, map, refl, slice_get, slice_get_within, subst, sym, true, ℕ, ◌+◌, ◌<◌, ◌==◌, ◌↔◌, ◌∙◌, ◌∷◌, ◌≡◌, eqb-true, nil_from_length, same_Some, IfOk-weaker, All, AllPairs, ◌≢◌, get_or, inl, inr, length-map, AreAll, Call, CallLeaves, CallStep, ChangesNothing, HasNumber, IsIdle, IsIdleCall, IsIdleJudged, IsMade, IsWatched, IsWithin, Judged, JudgedStep, LacksNumber, Left, Look, Service, Watched, WindowStep, states_in, watched, AreEnough}
 use Rattle.std.proofs.Math.ListN.{get_or-map}
-use Rattle.histories.proofs.Indices.{contains_map_of}
+use Rattle.histories.proofs.Lists.{contains_map_of}
 use Rattle.std.proofs.lemmas.List.{get_or_default}
 use Rattle.service_conformance.proofs.Calls.{all_as, all_of_none, enough, enough_as}
 

@@ -26,9 +26,8 @@ pub use Rattle.std.specs.Prelude.{All, AllPairs, IfNone, IfOk, IfSome, OnErr, fi
 pub use Rattle.std.specs.Result.{result_err}
 pub use Rattle.std.specs.declared.alloc.AllocError.{AllocError}
 pub use Rattle.histories.specs.Frontier.{IsIdle, IsMade, MovesBefore, states_in}
-pub use Rattle.histories.specs.Histories.{AreAll, AreEnough, IsExplained, Leads}
-pub use Rattle.histories.specs.Laws.{calls_alone}
-pub use Rattle.histories.specs.declared.left.Left.{Left}
+pub use Rattle.histories.specs.Histories.{AreAll, AreEnough, IsExplained, Leads, calls_alone}
+pub use Rattle.histories.specs.declared.machine.Left.{Left}
 pub use Rattle.iox2_config.specs.declared.hash.input.PatternKind.{PatternKind}
 pub use Rattle.iox2_container.specs.Steps.{Adds, Changes, Removes, AddStep, CalledInTurn, HasEntry, HasRoom, InsertsOne, IsFull, IsUnknownHandle, RecoverStep, RemoveStep, TakesEntry, details_where, candidates, is_of, lock_after, marks_of, release_state, staying}
 pub use Rattle.iox2_container.specs.State.{ContainerState, container, Handle, Entry, IsRegistry, RegistryState, handle_of}

@@ -1,6 +1,5 @@
 -- Names that the definitions cite, of the crates below and of modules of std beside its prelude.
-pub use Rattle.histories.specs.Histories.{IsExplained}
-pub use Rattle.histories.specs.Laws.{calls_alone}
+pub use Rattle.histories.specs.Histories.{IsExplained, calls_alone}
 pub use Rattle.iox2_config.specs.declared.hash.input.PatternKind.{PatternKind}
 pub use Rattle.iox2_container.specs.State.{ContainerState, container, Handle, Entry, IsRegistry, RegistryState, handle_of}
 pub use Rattle.iox2_container.specs.Steps.{IsFull, TakesEntry, is_of, listed, lock_after}

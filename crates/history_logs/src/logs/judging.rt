@@ -4,7 +4,7 @@ ghost use Rattle.std.specs.Prelude.{Some, length, slice_get, take};
 ghost use Rattle.std.specs.Int.{bit_at};
 ghost use Rattle.std.specs.List.{AllZip};
 ghost use Rattle.histories.specs.declared.window.Stop.TheVariants as stop;
-ghost use Rattle.histories.specs.declared.event.Event.TheVariants as event;
+ghost use Rattle.histories.specs.declared.front.Event.TheVariants as event;
 ghost use Rattle.histories.specs.Histories.{StandsAt};
 ghost use Rattle.histories.specs.Windows.{IsStop, IsVerdict, IsWindowOf};
 ghost use Rattle.log_lines.specs.Lines.{IsLine, Line, line_seen, line_text};

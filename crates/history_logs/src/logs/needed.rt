@@ -2,12 +2,11 @@
 ghost use Rattle.std.specs.Prelude.{◌≡◌, ◌<◌, ◌≤◌, ◌++◌, ◌∷◌, [], ℕ, IfOk, IsTrue, OnOk, length};
 ghost use Rattle.std.specs.Prelude.{take};
 ghost use Rattle.std.specs.List.{flat_map};
-ghost use Rattle.histories.specs.declared.event.Event.TheVariants.{Begin, End};
+ghost use Rattle.histories.specs.declared.front.Event.TheVariants.{Begin, End};
 ghost use Rattle.histories.specs.Frontier.{IsIdle};
 ghost use Rattle.histories.specs.Histories.{StandsAt};
 ghost use Rattle.histories.specs.declared.window.Stop.TheVariants as stop;
-ghost use Rattle.histories.specs.Needed.{AreIdle, HasCut, events_of, is_kept};
-ghost use Rattle.histories.specs.Windows.{IsStop};
+ghost use Rattle.histories.specs.Windows.{AreIdle, HasCut, IsStop, events_of, is_kept};
 ghost use Rattle.service_conformance.specs.Judged.{WindowStep};
 ghost use Rattle.history_logs.specs.Good.{IsOrderly};
 ghost use Rattle.history_logs.specs.Judging.{BeginBelow};

@@ -1,6 +1,6 @@
 //! Judging what was seen of services while it is read.
 ghost use Rattle.std.specs.Prelude.{◌≡◌, ◌≤◌, ◌<◌, ◌⊎◌, ℕ, IfOk, IfSome, IsTrue, None, Some, length, take};
-ghost use Rattle.histories.specs.declared.event.Event.TheVariants.{Begin};
+ghost use Rattle.histories.specs.declared.front.Event.TheVariants.{Begin};
 ghost use Rattle.histories.specs.Advances.{Ends};
 ghost use Rattle.histories.specs.Frontier.{HasSlot};
 ghost use Rattle.histories.specs.Histories.{HasEnded};

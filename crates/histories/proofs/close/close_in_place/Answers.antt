@@ -1,6 +1,6 @@
 use Rattle.histories.proofs.Words.{rules, ◌≡◌, ◌∷◌, [], List, ap, get_or, length, slice_set, subst, sym, true, Config, IsClosed, IsMadeFirst, IsSettled, spot_of}
 use Rattle.histories.proofs.Alone.{closed_already, closed_in_place}
-use Rattle.histories.proofs.Indices.{one_of_one}
+use Rattle.histories.proofs.Lists.{one_of_one}
 use Rattle.histories.proofs.close.close_in_place.Goals as goal
 
 pub returns : goal.returns

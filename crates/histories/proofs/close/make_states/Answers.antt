@@ -1,6 +1,6 @@
 use Rattle.histories.proofs.Words.{◌∙◌}
 use Rattle.histories.proofs.Gathering.{settles_no_one, settles_pushed}
-use Rattle.histories.proofs.Indices.{all_taken}
+use Rattle.histories.proofs.Lists.{all_taken}
 use Rattle.histories.proofs.close.make_states.Goals as goal
 
 pub loop-state-init : goal.loop-state-init

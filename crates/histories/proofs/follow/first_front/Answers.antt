@@ -1,5 +1,5 @@
 use Rattle.histories.proofs.Words.{IfOk-weaker}
-use Rattle.histories.proofs.Growing.{goes_begin}
+use Rattle.histories.proofs.Following.{goes_begin}
 use Rattle.histories.proofs.follow.first_front.Goals as goal
 
 pub returns : goal.returns

@@ -1,6 +1,5 @@
 use Rattle.histories.specs.declared.front.Advance.TheVariants as advance
-use Rattle.histories.proofs.Following.{follows_alone, follows_begin, follows_done, follows_end, follows_whole, stopped}
-use Rattle.histories.proofs.Growing.{goes_explained}
+use Rattle.histories.proofs.Following.{follows_alone, follows_begin, follows_done, follows_end, follows_whole, goes_explained, stopped}
 use Rattle.histories.proofs.follow.follow.Goals as goal
 
 pub loop-at-init : goal.loop-at-init

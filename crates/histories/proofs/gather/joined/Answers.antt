@@ -1,6 +1,6 @@
 use Rattle.histories.proofs.Words.{◌∙◌}
 use Rattle.histories.proofs.Gathering.{gathers_no_one, gathers_pushed}
-use Rattle.histories.proofs.Indices.{all_taken}
+use Rattle.histories.proofs.Lists.{all_taken}
 use Rattle.histories.proofs.gather.joined.Goals as goal
 
 pub loop-config-init : goal.loop-config-init

@@ -1,8 +1,8 @@
 use Rattle.histories.proofs.Words.{[], ◌≤◌, length, refl, IfOk-weaker, AreTaken, FromOne, IsOpened, Settles, TakesSlot}
-use Rattle.histories.proofs.Frontiers.{agrees_slots, begin_ends, frontier_begin, laid_out}
+use Rattle.histories.proofs.Frontiers.{agrees_slots, frontier_begin, laid_out}
 use Rattle.histories.proofs.Closing.{settles_steps}
-use Rattle.histories.proofs.Counting.{not_many}
-use Rattle.histories.proofs.Events.{many_open, table_begin}
+use Rattle.histories.proofs.Lists.{not_many}
+use Rattle.histories.proofs.Events.{many_open, table_begin, begin_no_end}
 use Rattle.histories.proofs.step.begin.Goals as goal
 
 pub returns : goal.returns
@@ -24,8 +24,9 @@ returns g c =
     rw c.replace-configs.ensures.value at c.in_ok-front.ensures.most in
     laid_out _ _ _ _ _ _ c.lay.new.front _ (rw lies.0
     (frontier_begin _ _ _ _ _ takes f.table.few _ _ _ _ _ sound (fresh call refl) f
-    (settles_steps _ _ _ (agrees_slots _ _ _ _ next after) _ _ _ is) (not_many _ _ most
-    c.requires.enough))) lies.1 (begin_ends _ _)) c.lay.ensures
+    (settles_steps _ _ _ (agrees_slots _ _ _ _ next after) _ _ _ is)
+    (not_many _ _ most c.requires.enough))) lies.1
+    (λ x ends. absurd (begin_no_end call x ends))) c.lay.ensures
 
 pub returns-in_default : goal.returns-in_default
 returns-in_default g c whole events olds before after sound fresh f =

@@ -1,7 +1,8 @@
 use Rattle.histories.proofs.Words.{rules, ◌≡◌, length, map, refl, AreEach, IsUnlinked}
-use Rattle.histories.proofs.Indices.{put_back}
+use Rattle.histories.proofs.Lists.{put_back}
 use Rattle.histories.proofs.step.begin_anew.Goals as goal
-use Rattle.histories.proofs.Cutting.{fresh_anew, quiet_empty, split_anew}
+use Rattle.histories.proofs.Alone.{fresh_anew, split_anew}
+use Rattle.histories.proofs.Events.{quiet_empty}
 
 pub returns : goal.returns
 returns g c whole events olds sound f =

@@ -1,5 +1,5 @@
 use Rattle.histories.proofs.Words.{List, inr, AllPairs, Config, IsSame, IsClosed}
-use Rattle.histories.proofs.Indices.{put_back}
+use Rattle.histories.proofs.Lists.{put_back}
 use Rattle.histories.proofs.step.end_in_place.Goals as goal
 
 pub returns : goal.returns

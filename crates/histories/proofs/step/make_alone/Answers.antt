@@ -1,14 +1,6 @@
-use Rattle.histories.proofs.Words.{rules, refl}
-use Rattle.histories.proofs.Alone.{made_alone, made_none}
+use Rattle.histories.proofs.Words.{rules}
+use Rattle.histories.proofs.Alone.{made_alone}
 use Rattle.histories.proofs.step.make_alone.Goals as goal
-
-pub returns-then-not-branch : goal.returns-then-not-branch
-returns-then-not-branch g c = (
-  refl,
-  made_none _ _ _
-      (search rules) c.index_mut.ensures.value (rw c.if-not-branch.true at c.in_ok-make_in.ensures),
-  refl,
-)
 
 pub returns : goal.returns
 returns g c =

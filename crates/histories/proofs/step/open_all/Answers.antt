@@ -1,6 +1,6 @@
 use Rattle.histories.proofs.Words.{◌∙◌, arith, length_push, rules}
 use Rattle.histories.proofs.Gathering.{settles_alone, settles_one, settles_no_one, settles_pushed}
-use Rattle.histories.proofs.Indices.{all_taken}
+use Rattle.histories.proofs.Lists.{all_taken}
 use Rattle.histories.proofs.step.open_all.Goals as goal
 
 pub loop-config-init : goal.loop-config-init

@@ -1,5 +1,5 @@
 use Rattle.histories.proofs.Words.{IsUnlinked}
-use Rattle.histories.proofs.Indices.{AreDone}
+use Rattle.histories.proofs.Lists.{AreDone}
 use Rattle.histories.proofs.step.unlink.Given as goal
 
 abbrev pub invariant-loop-config : goal.invariant-loop-config

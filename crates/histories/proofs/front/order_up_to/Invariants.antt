@@ -1,5 +1,5 @@
 use Rattle.histories.proofs.Words.{◌≡◌, ◌≤◌, ◌++◌, length, reverse, read}
-use Rattle.histories.proofs.links.order_up_to.Given as goal
+use Rattle.histories.proofs.front.order_up_to.Given as goal
 
 abbrev pub invariant-loop-left : goal.invariant-loop-left
 invariant-loop-left l =

@@ -1,6 +1,6 @@
 use Rattle.histories.proofs.Words.{◌≡◌, ◌<◌, ◌+◌, ◌-◌, ◌++◌, ◌∙◌, List, ℕ, ap, append-nil, arith, length, reverse, sym, get_or_default, read}
-use Rattle.histories.proofs.Indices.{read_bounded, read_more, read_zero}
-use Rattle.histories.proofs.links.order_up_to.Goals as goal
+use Rattle.histories.proofs.Lists.{read_bounded, read_more, read_zero}
+use Rattle.histories.proofs.front.order_up_to.Goals as goal
 
 pub loop-left-init : goal.loop-left-init
 loop-left-init c = grind (arith, read_bounded, append-nil)

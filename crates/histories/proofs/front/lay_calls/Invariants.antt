@@ -1,5 +1,5 @@
 use Rattle.histories.proofs.Words.{take, IsLaidOut}
-use Rattle.histories.proofs.links.lay_calls.Given as goal
+use Rattle.histories.proofs.front.lay_calls.Given as goal
 
 abbrev pub invariant-loop-call : goal.invariant-loop-call
 invariant-loop-call l =

@@ -1,6 +1,6 @@
 use Rattle.histories.proofs.Words.{Grows, IsLaid}
-use Rattle.histories.proofs.Indices.{AreDone}
-use Rattle.histories.proofs.links.lay_all.Given as goal
+use Rattle.histories.proofs.Lists.{AreDone}
+use Rattle.histories.proofs.front.lay_all.Given as goal
 
 abbrev pub invariant-loop-config : goal.invariant-loop-config
 invariant-loop-config g l =

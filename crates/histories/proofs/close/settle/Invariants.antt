@@ -1,5 +1,5 @@
 use Rattle.histories.proofs.Words.{IsSettled, spot_of}
-use Rattle.histories.proofs.settle.settle.Given as goal
+use Rattle.histories.proofs.close.settle.Given as goal
 
 abbrev pub invariant-loop-slot : goal.invariant-loop-slot
 invariant-loop-slot g l =
