@@ -297,16 +297,4 @@ module _ {S T : Type 0} (Step : S → ℕ → S → Type 0) (Other : T → ℕ �
 
     pub explained_seen : (olds : List S) → IsExplained Step events olds
         → IsExplained Other events (map seen olds)
-    explained_seen olds x = (
-      seen x.0,
-      x.1,
-      seen x.2,
-      contains_map_of seen olds x.0 x.3,
-      record {
-        once = x.4.once;
-        begun = x.4.begun;
-        answered = x.4.answered;
-        real_time = x.4.real_time;
-        leads = leads_seen x.1 x.0 x.2 x.4.begun x.4.leads;
-      },
-    )
+    explained_seen olds x = search (arith, contains_map_of, leads_seen)

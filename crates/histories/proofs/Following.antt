@@ -428,9 +428,7 @@ no_slot Step olds front f slot c has =
 pub slot_open : {S : Type 0} (Step : S → ℕ → S → Type 0) (olds : List S) (es : List Event)
     (front : Front S) → IsFrontAfter Step olds es front → (c : ℕ) → IsOpen es c
     → (slot : ℕ) × HasSlot front.slots.items slot c
-slot_open Step olds es front f c is =
-    let w = f.1.is in
-    w.front.table.all c (open_inside _ _ _ w.cut.quiet (rw (← w.split) is))
+slot_open Step olds es front f c is = search (arith, open_inside)
 
 module _ {M S : Type 0} (StepOf : M → S → ℕ → S → Type 0) (machine : M) (old : Front S)
     (events : List Event) (at : ℕ) (mid : Front S)

@@ -135,10 +135,7 @@ module _ {S : Type 0} where
       → bit_at config.waiting slot ≡ 1 → dropped.state ≡ config.state
       → dropped.waiting ≡ cleared config.waiting slot → path_of dropped ≡ path_of config
       → Gathers (IsCopy dropped) old new → Gathers (IsDropped slot config) old new
-  gathers_dropped slot config dropped old new waits state gone made g =
-      gathers_as _ _ _ _
-      (λ k p. (waits, (p.0 ∙ state, p.1 ∙ gone, p.2 ∙ made)))
-      (λ k p. (p.1.0 ∙ sym state, p.1.1 ∙ sym gone, p.1.2 ∙ sym made)) g
+  gathers_dropped slot config dropped old new waits state gone made g = search (arith, gathers_as)
 
 module _ {S : Type 0} (Step : S → ℕ → S → Type 0) (slots : List (Option ℕ)) where
   -- a copy of what was settled
@@ -278,9 +275,7 @@ module _ {S : Type 0} (Step : S → ℕ → S → Type 0) (slots : List (Option 
       → path_of next ≡ path_more (path_of from) (call ∷ [])
       → Settles Step slots (IsCopy next) old new
       → Settles Step slots (IsNextIn from slot call state) old new
-  settles_state from next slot call state old new same waits made g =
-      settles_as _ _ _ _ (λ k p. (p.0 ∙ same, p.1 ∙ waits, p.2 ∙ made))
-      (λ k p. (p.0 ∙ sym same, p.1 ∙ sym waits, p.2 ∙ sym made)) g
+  settles_state from next slot call state old new same waits made g = search (arith, settles_as)
 
   -- where the call was made in place
   pub settles_made : (from next : Config S) (made : Config S) (slot call : ℕ)

@@ -135,10 +135,6 @@ pub record AreDone {X : Type 0} (R : X → X → Type 0) (olds now : List X) (at
 pub less_of : (i n : ℕ) → i < n + 1 → i ≢ n → i < n
 less_of i n h ne = grind (arith, cases_lt)
 
--- none yet
-pub done_none : {X : Type 0} (R : X → X → Type 0) (olds : List X) → AreDone R olds olds 0
-done_none R olds = grind arith
-
 -- one index more
 pub done_more : {X : Type 0} (R : X → X → Type 0) (olds now : List X) (at : ℕ) (item one : X)
     → at < length now → item ≡ get_or now at item → R item one → AreDone R olds now at

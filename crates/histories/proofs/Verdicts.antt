@@ -166,8 +166,7 @@ module _ {S : Type 0} (Step : S → ℕ → S → Type 0) where
   pub frontier_refused : (links : List Link) (slots : List (Option ℕ)) (es : List Event)
       (olds : List S) (configs : List (Config S)) → IsFrontier Step links slots es olds configs
       → length configs ≡ 0 → ¬ (IsExplained Step es olds)
-  frontier_refused links slots es olds configs f none x =
-      let l = f.complete x.0 x.1 x.2 x.3 x.4 in absurd (omega (arith, none, l.2.1.1))
+  frontier_refused links slots es olds configs f none x = grind arith
 
   pub frontier_some : (links : List Link) (slots : List (Option ℕ)) (olds : List S)
       (configs : List (Config S)) → 0 < length olds

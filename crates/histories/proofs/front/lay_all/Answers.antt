@@ -1,9 +1,6 @@
 use Rattle.histories.proofs.Words.{◌<◌, arith, get_or, length, get_or_default}
-use Rattle.histories.proofs.Lists.{done_as, done_more, done_none, grows_none, grows_then, laid_within}
+use Rattle.histories.proofs.Lists.{done_as, done_more, grows_none, grows_then, laid_within}
 use Rattle.histories.proofs.front.lay_all.Goals as goal
-
-pub loop-config-init : goal.loop-config-init
-loop-config-init g c = (done_none _ _, grows_none _)
 
 pub loop-config-preserved : goal.loop-config-preserved
 loop-config-preserved g c =
