@@ -1,5 +1,5 @@
 -- A call that ends is made.
-use Rattle.histories.proofs.Words.{[], ◌≡◌, ◌↔◌, ℕ, ◌+◌, ◌<◌, ◌≤◌, List, ◌∷◌, ◌++◌, length, refl, sym, ◌∙◌, ap, arith, inl, inr, append-nil, append_assoc, Option, AllPairs, cases_eq, bit_at, Contains-push, Contains-push_cases, Config, HasSlot, IsLighter, IsSame, LeadTo, Path, Runs, cleared, path_more, path_of, ComesFirst, FromOne, Gathers, GoesFrom, GoesOn, IsClosed, IsClosing, IsDone, IsMadeFrom, IsNextAt, IsSettled, IsUnderWay, MovesFirst, Settles, Spot, ones, spot_of}
+use Rattle.histories.proofs.Words.{[], ◌≡◌, ◌↔◌, ℕ, ◌+◌, ◌<◌, ◌≤◌, List, ◌∷◌, ◌++◌, length, refl, sym, ◌∙◌, ap, arith, inl, inr, append-nil, append_assoc, Option, AllPairs, cases_eq, bit_at, Contains-push, Contains-push_cases, Config, HasSlot, IsLighter, IsSame, LeadTo, Path, Runs, cleared, path_more, path_of, ComesFirst, FromOne, Gathers, GoesFrom, GoesOn, IsClosed, IsClosing, IsDone, IsMadeFrom, IsNextAt, IsSettled, IsUnderWay, Settles, Spot, ones, spot_of}
 use Rattle.histories.specs.Gathering.{IsNext}
 use Rattle.histories.proofs.Lists.{nothing_in, only}
 use Rattle.histories.proofs.Running.{bit_cases, cleared_le, cleared_same, ones_le, ones_less, ones_most, slot_64, slot_once, slot_within, lighter_then, runs_fewer, runs_first, runs_lighter, runs_then}
@@ -164,14 +164,6 @@ module _ {S : Type 0} (Step : S → ℕ → S → Type 0) (slots : List (Option 
       let first = runs_before config _ _ _ _ _ few here waits comes over run in
       leads_sought _ _ _ (spot_after config slot call first.0) _ _ _ _ few short g
       (call, (here, waits), first.1, refl, refl) first.2.1 light) g
-
-  pub goes_first : (slot : ℕ) (config : Config S) (old new : List (Config S))
-      → length slots ≤ 64 → bit_at config.waiting slot ≡ 1
-      → MovesFirst Step slots slot config.waiting
-      → Settles Step slots (IsNextAt Step slots config slot) old new
-      → GoesOn Step slots slot (config ∷ []) old new
-  goes_first slot config old new few waits moves g =
-      goes_by _ _ _ _ _ few moves.1 waits (inl moves) g
 
   -- where there are too many already
   pub goes_full : (slot : ℕ) (layer old : List (Config S)) → 4096 < length old

@@ -119,6 +119,7 @@ fn make_state<M: Machine>(
 }
 
 /// The same for each of these states.
+#[tactic(auto, using(crate::proofs::Gathering::settles_no_one))]
 fn make_states<M: Machine>(
     alloc: Global,
     machine: &M,
@@ -329,7 +330,7 @@ pub fn close_in_place<M: Machine>(
 /// Adds the configurations to which one more call leads, that in the slot last, unless there are
 /// too many. Where this moves before all others that wait, it is made alone: they can be made after
 /// it.
-#[tactic(auto, using(crate::proofs::Closing::goes_first, crate::proofs::Closing::goes_full, crate::proofs::Gathering::settles_no_slot))]
+#[tactic(auto, using(crate::proofs::Closing::goes_by, crate::proofs::Closing::goes_full, crate::proofs::Gathering::settles_no_slot))]
 fn make_calls<M: Machine>(
     alloc: Global,
     machine: &M,
@@ -384,7 +385,7 @@ fn close_one<M: Machine>(
 
 /// The same for each of these configurations. Returns the next ones: once there are too many, no
 /// more.
-#[tactic(auto, using(crate::proofs::Closing::goes_none, crate::proofs::Closing::layer_none))]
+#[tactic(auto, using(crate::proofs::Closing::goes_none, crate::proofs::Closing::layer_none, crate::proofs::Gathering::gathers_no_one))]
 fn close_round<M: Machine>(
     alloc: Global,
     machine: &M,

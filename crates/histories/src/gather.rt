@@ -251,6 +251,7 @@ pub fn add<M: Machine>(
 }
 
 /// The first configurations, and of the others those that are not there yet.
+#[tactic(auto, using(crate::proofs::Gathering::gathers_no_one))]
 pub fn joined<M: Machine>(
     alloc: Global,
     machine: &M,
@@ -268,6 +269,7 @@ pub fn joined<M: Machine>(
 
 /// The front before any event: these states, each once. Where they are more than `MAX_CONFIGS`, the
 /// first event finds that.
+#[tactic(auto, using(crate::proofs::Gathering::gathers_no_one))]
 pub fn start<M: Machine>(
     alloc: Global,
     machine: &M,

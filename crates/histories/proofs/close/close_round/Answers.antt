@@ -1,11 +1,8 @@
 use Rattle.histories.proofs.Words.{◌∙◌}
-use Rattle.histories.proofs.Closing.{goes_none, goes_pushed}
-use Rattle.histories.proofs.Gathering.{gathers_no_one, gathers_pushed}
+use Rattle.histories.proofs.Closing.{goes_pushed}
+use Rattle.histories.proofs.Gathering.{gathers_pushed}
 use Rattle.histories.proofs.Lists.{all_taken}
 use Rattle.histories.proofs.close.close_round.Goals as goal
-
-pub loop-config-init : goal.loop-config-init
-loop-config-init g c = (gathers_no_one _ _, rw c.in_ok-next.ensures (goes_none _ _ _ _))
 
 pub loop-config-preserved : goal.loop-config-preserved
 loop-config-preserved g c = (

@@ -1,10 +1,7 @@
 use Rattle.histories.proofs.Words.{◌∙◌}
-use Rattle.histories.proofs.Gathering.{settles_no_one, settles_pushed}
+use Rattle.histories.proofs.Gathering.{settles_pushed}
 use Rattle.histories.proofs.Lists.{all_taken}
 use Rattle.histories.proofs.close.make_states.Goals as goal
-
-pub loop-state-init : goal.loop-state-init
-loop-state-init g c = settles_no_one _ _ _ _
 
 pub loop-state-preserved : goal.loop-state-preserved
 loop-state-preserved g c =

@@ -1,10 +1,7 @@
 use Rattle.histories.proofs.Words.{◌∙◌}
-use Rattle.histories.proofs.Gathering.{gathers_no_one, gathers_pushed}
+use Rattle.histories.proofs.Gathering.{gathers_pushed}
 use Rattle.histories.proofs.Lists.{all_taken}
 use Rattle.histories.proofs.gather.joined.Goals as goal
-
-pub loop-config-init : goal.loop-config-init
-loop-config-init g c = rw c.of-all.ensures (gathers_no_one _ _)
 
 pub loop-config-preserved : goal.loop-config-preserved
 loop-config-preserved g c =

@@ -1,10 +1,7 @@
 use Rattle.histories.proofs.Words.{rules, ◌≤◌, ℕ, List, length, subst, take_all, Gathers, IsSpot}
 use Rattle.histories.proofs.Frontiers.{frontier_first}
-use Rattle.histories.proofs.Gathering.{gathers_no_one, gathers_one}
+use Rattle.histories.proofs.Gathering.{gathers_one}
 use Rattle.histories.proofs.gather.start.Goals as goal
-
-pub loop-from-init : goal.loop-from-init
-loop-from-init g c = rw (c.of-configs.ensures, c.new.ensures.items) (gathers_no_one _ _)
 
 pub loop-from-preserved : goal.loop-from-preserved
 loop-from-preserved g c =
