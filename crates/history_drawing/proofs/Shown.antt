@@ -14,7 +14,8 @@ use Rattle.history_drawing.specs.declared.timeline.Timeline.{Timeline}
 use Rattle.history_drawing.specs.declared.timeline.Window.{Window}
 use Rattle.std.specs.declared.alloc.AllocError.{AllocError}
 use Rattle.std.specs.Io.KnownBytes.{Appends}
-use Rattle.line_streams.specs.Filters.{Ran, either, status_number}
+use Rattle.line_streams.proofs.Written.{status_small}
+use Rattle.line_streams.specs.Filters.{Ends, Ran, either, status_number}
 use Rattle.std.specs.Result.{IsOkAnd}
 use Rattle.std.specs.declared.alloc.Global.{Global}
 use Rattle.std.specs.declared.io.Error.{Error}
@@ -164,31 +165,37 @@ errors_of = either (λ d. d.message.items) (λ why. codes "no memory\n")
 abbrev DrawsRead : Result (Vec ℕ Global) AllocError → Result Drawing AllocError → Type 0
 DrawsRead read end = IfOk end (λ d. IsOkAnd read (λ log. IsDrawingOf log.items d))
 
--- what the writers get of it, where the status is below 3
+-- what the writers get of it
 pub drawn_where_ran : (Works : Result (Vec ℕ Global) AllocError → Result Drawing AllocError
-    → Type 0) (wrote : Result ℕ Error) (given left a b e f last : Option (List ℕ)) (status : ℕ)
+    → Type 0) (wrote : Result ℕ Error) (given left a b e f : Option (List ℕ))
     → ((read : Result (Vec ℕ Global) AllocError) (end : Result Drawing AllocError)
     → Works read end → DrawsRead read end)
     → IfOk wrote (λ n. Ran Works status_of output_of errors_of n given left a b e f)
-    → IfOk wrote (λ n. (status ≡ n) × (last ≡ f)) → OnErr wrote (status ≡ 3) → status < 3
-    → IfSome given (λ log. DrawnWith log status a b e last)
-drawn_where_ran Works (Err x) given left a b e f last status draws ran same failed small =
-    absurd (omega (arith, failed, small))
-drawn_where_ran Works (Ok n) None left a b e f last status draws ran same failed small = tt
-drawn_where_ran Works (Ok n) (Some log) left a b e f last status draws ran same failed small =
-    go ran.read ran.outcome (draws ran.read ran.outcome ran.worked) ran.all
-    (same.0 ∙ ran.is_status) ran.output (rw same.1 ran.errors)
+    → IfOk wrote (λ n. Ends (λ n. IfSome given (λ log. DrawnWith log n a b e f)) n a b e f)
+drawn_where_ran Works (Err x) given left a b e f draws ran = tt
+drawn_where_ran Works (Ok n) given left a b e f draws ran =
+    go given ran.read ran.outcome (draws ran.read ran.outcome ran.worked) ran.all ran.is_status
+    ran.output ran.errors
   where
-    go : (read : Result (Vec ℕ Global) AllocError) (end : Result Drawing AllocError)
-        → DrawsRead read end → IfOk read (λ bytes. bytes.items ≡ log) → status ≡ status_of end
-        → Appends a b (output_of end) → Appends e last (errors_of end)
-        → DrawnWith log status a b e last
-    go read (Err why) drawn all is out err = absurd (omega (arith, is, small))
-    go (Err why) (Ok d) drawn all is out err = absurd drawn
-    go (Ok bytes) (Ok d) drawn all is out err = record {
+    drawn : (given : Option (List ℕ)) (read : Result (Vec ℕ Global) AllocError) (d : Drawing)
+        → DrawsRead read (Ok d) → IfOk read (λ bytes. IfSome given (λ log. bytes.items ≡ log))
+        → n ≡ status_number d.status → Appends a b (string_bytes d.picture)
+        → Appends e f d.message.items → IfSome given (λ log. DrawnWith log n a b e f)
+    drawn None read d draws all is out err = tt
+    drawn (Some log) (Err why) d draws all is out err = absurd draws
+    drawn (Some log) (Ok bytes) d draws all is out err = record {
       d = d;
-      is = subst (λ (l : List ℕ). IsDrawingOf l d) all drawn;
+      is = subst (λ (l : List ℕ). IsDrawingOf l d) all draws;
       reported = is;
       output = out;
       errors = err;
     }
+
+    go : (given : Option (List ℕ)) (read : Result (Vec ℕ Global) AllocError)
+        (end : Result Drawing AllocError) → DrawsRead read end
+        → IfOk read (λ bytes. IfSome given (λ log. bytes.items ≡ log)) → n ≡ status_of end
+        → Appends a b (output_of end) → Appends e f (errors_of end)
+        → Ends (λ n. IfSome given (λ log. DrawnWith log n a b e f)) n a b e f
+    go given read (Err why) draws all is out err = inr (is, (out, err))
+    go given read (Ok d) draws all is out err =
+        inl (rw is (status_small d.status), drawn given read d draws all is out err)

@@ -1,9 +1,10 @@
 //! Pictures of logs that come from a stream.
-ghost use Rattle.std.specs.Prelude.{◌<◌, IfOk, IfSome, string_bytes};
+ghost use Rattle.std.specs.Prelude.{◌≡◌, ◌<◌, ◌⊎◌, IfErr, IfOk, IfSome, OnOk, string_bytes};
 ghost use Rattle.std.specs.Result.{IsOkAnd};
 ghost use Rattle.std.specs.Io.KnownBytes.{IsAtEnd};
-ghost use Rattle.line_streams.specs.Filters.{status_number};
-ghost use Rattle.line_streams.specs.Streams.{IsFlushed};
+ghost use Rattle.std.specs.declared.io.Error.{Error};
+ghost use Rattle.line_streams.specs.Filters.{Ends, RefusesMemory, status_number};
+ghost use Rattle.line_streams.specs.Streams.{Fails, IsFlushed, ReadFails, ReportsFailure};
 ghost use Rattle.history_drawing.specs.Drawings.{DrawnWith, IsDrawingOf};
 
 use crate::drawing::{Drawing, draw_log};
@@ -41,6 +42,29 @@ fn draw_read(alloc: Global, read: Result<Vec<u8>, AllocError>) -> Result<Drawing
     }
 }
 
+/// Draws the log that the reader gives, and returns the status unless a stream fails.
+fn run<R: Source, W: Sink, E: Sink>(
+    alloc: Global,
+    input: &mut R,
+    output: &mut W,
+    errors: &mut E,
+) -> io::Result<u8>
+    ensures ends { IfOk result (λ status. Ends (λ n. IfSome (R.remaining input.old)
+        (λ log. DrawnWith log n (W.contents output.old) (W.contents output.new)
+        (E.contents errors.old) (E.contents errors.new))) status
+        (W.contents output.old) (W.contents output.new)
+        (E.contents errors.old) (E.contents errors.new)) }
+    ensures flushed { OnOk result
+        (IsFlushed W.Flushes output.new × IsFlushed E.Flushes errors.new) }
+    ensures read { IfOk result (λ status. status < 3 → IsAtEnd (R.remaining input.new)) }
+    ensures failed { IfErr result (λ e. (ReadFails R.FailsBy input.new e
+        × (output.new ≡ output.old) × (errors.new ≡ errors.old))
+        ⊎ (Fails W.Writes W.FailsToFlush output.new e
+        ⊎ Fails E.Writes E.FailsToFlush errors.new e)) }
+{
+    run_filter(alloc, input, output, errors, |read| draw_read(alloc, read))
+}
+
 /// Draws the log that the reader gives, and answers the status of the program.
 ///
 /// - 0: orders of the calls explain the replies. A picture of all calls was written to `output`.
@@ -66,7 +90,16 @@ pub fn draw_streams<R: Source, W: Sink, E: Sink>(
         → IsFlushed W.Flushes output.new × IsFlushed E.Flushes errors.new }
     // All input was read.
     ensures read { result < 3 → IsAtEnd (R.remaining input.new) }
+    // Memory was refused, or a read, a write or a flush failed, and that was reported. Where the
+    // read failed, nothing was written before that.
+    ensures failed { result ≡ 3
+        → RefusesMemory (W.contents output.old) (W.contents output.new)
+        (E.contents errors.old) (E.contents errors.new)
+        ⊎ ((e : Error) × (before : E) × ReportsFailure E.contents E.Writes before errors.new
+        × ((ReadFails R.FailsBy input.new e × (output.new ≡ output.old) × (before ≡ errors.old))
+        ⊎ (Fails W.Writes W.FailsToFlush output.new e
+        ⊎ Fails E.Writes E.FailsToFlush before e))) }
 {
-    let end = run_filter(alloc, input, output, errors, |read| draw_read(alloc, read));
+    let end = run(alloc, input, output, errors);
     report_failure(errors, end)
 }

@@ -1,7 +1,6 @@
 -- What the arguments request.
 use Rattle.std.specs.Prelude.{◌≡◌, ◌≢◌, ◌⊎◌, ℕ, List, [], ◌∷◌, codes, map, drop, Option, Result, Ok, Err, String, string_bytes}
 use Rattle.std.specs.IoError.{error_kind}
-use Rattle.std.specs.Io.KnownBytes.{Appends}
 use Rattle.std.specs.Vec.Iter.{into_iter_items}
 use Rattle.std.specs.declared.alloc.Global.{Global}
 use Rattle.std.specs.declared.vec.IntoIter.{IntoIter}
@@ -30,12 +29,13 @@ RequestsIn words (Ok (Check report.Witness)) = words ≡ codes "--witness" ∷ [
 RequestsIn words (Ok (CheckWithProgress report.Verdict)) = words ≡ codes "--progress" ∷ []
 RequestsIn words (Ok (CheckWithProgress report.Witness)) = IsBoth words
 RequestsIn words (Ok Picture) = words ≡ codes "svg" ∷ []
-RequestsIn words (Ok Help) = words ≡ codes "--help" ∷ []
+RequestsIn words (Ok Help) = (words ≡ codes "-h" ∷ []) ⊎ (words ≡ codes "--help" ∷ [])
 RequestsIn words (Ok Version) = words ≡ codes "--version" ∷ []
 RequestsIn words (Err BadArgument) =
     (words ≢ []) × (words ≢ codes "--progress" ∷ []) × (words ≢ codes "--witness" ∷ [])
     × ¬ (IsBoth words) × (words ≢ codes "svg" ∷ [])
-    × (words ≢ codes "--help" ∷ []) × (words ≢ codes "--version" ∷ [])
+    × (words ≢ codes "-h" ∷ []) × (words ≢ codes "--help" ∷ [])
+    × (words ≢ codes "--version" ∷ [])
 RequestsIn words (Err NoMemory) = ⊥
 
 -- what the arguments request: where they could not be had, there is no memory or they are bad
@@ -45,7 +45,3 @@ Requests (Ok words) request = RequestsIn (drop 1 (words_of words)) request
 Requests (Err why) (Err NoMemory) = error_kind why ≡ OutOfMemory
 Requests (Err why) (Err BadArgument) = error_kind why ≢ OutOfMemory
 Requests (Err why) (Ok request) = ⊥
-
--- the text was written, and the status is this one
-abbrev pub Printed : List ℕ → ℕ → ℕ → Option (List ℕ) → Option (List ℕ) → Type 0
-Printed text wanted status old new = (status ≡ wanted) × Appends old new text

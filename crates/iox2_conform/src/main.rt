@@ -1,19 +1,21 @@
 //! Judges the log on standard input, and writes the verdict to standard output.
 #![tactic(auto)]
 
-ghost use Rattle.std.specs.Prelude.{◌≡◌, ◌<◌};
-ghost use Rattle.std.specs.Io.KnownBytes.{IsAtEnd};
+ghost use Rattle.std.specs.Prelude.{◌≡◌, ◌<◌, ◌⊎◌};
+ghost use Rattle.std.specs.declared.io.Error.{Error};
 ghost use Rattle.history_logs.specs.Progress.{AddsCounts};
-ghost use Rattle.line_streams.specs.Streams.{IsFlushed};
-ghost use Rattle.iox2_conform.specs.Program.{Ran, RequestsCheck, RequestsProgress};
+ghost use Rattle.line_streams.specs.Filters.{RefusesMemory};
+ghost use Rattle.line_streams.specs.Streams.{Fails, IsFlushed, ReadFails, ReportsFailure};
+ghost use Rattle.iox2_conform.specs.Program.{Ran, RequestsCheck, RequestsProgress, text_on_errors};
+ghost use Rattle.iox2_conform.specs.Program.{text_on_output, text_status};
 
 mod request;
 
 use history_drawing::draw_streams;
 use history_logs::logs::{Counts, NoProgress, Progress, check_streams};
-use line_streams::{Sink, Source};
-use request::{Request, RequestError, print, request_of};
-use std::alloc::Global;
+use line_streams::{Outcome, Sink, Source, Status, report_failure, write_outcome, write_whole};
+use request::{Request, RequestError, request_of};
+use std::alloc::{AllocError, Global};
 use std::env::Args;
 use std::io::IsTerminal;
 use std::process::ExitCode;
@@ -21,7 +23,7 @@ use std::{env, io};
 
 /// How the program is used.
 const HELP: &str = "usage: iox2-conform [--witness] [--progress] < LOG
-       iox2-conform svg | --help | --version
+       iox2-conform svg | -h | --help | --version
 
 Reads the log of services from standard input: the line of a service, and then what was seen of it,
 in the order of time. `A> COMMAND` begins a call of the caller A, `A< WORDS` ends it with the reply
@@ -37,7 +39,7 @@ calls overlap, each reply that the call could have had, and who was attached the
   --witness  write an order of the calls on each service too, where the log conforms: the lines
              in which they begin, one a line
   --progress show how many lines were read, once a second, where standard error is a terminal
-  --help     write this text and read nothing
+  -h, --help write this text and read nothing
   --version  write the version and read nothing
 
 docs/CONFORM.md has the lines of logs, docs/SCRIPT.md has commands and replies. Lines that are empty
@@ -50,8 +52,50 @@ memory was refused or reading or writing failed.
 const VERSION: &str = "iox2-conform 0.1.0 (iceoryx2 0.9.3)\n";
 
 /// What is reported of arguments that the program does not know.
-const BAD_ARGUMENT: &str = "bad argument: expected svg, --witness, --progress, --help, --version, \
-    or no argument; the log is read from standard input\n";
+const BAD_ARGUMENT: &str = "bad argument: expected svg, --witness, --progress, -h, --help, \
+    --version, or no argument; the log is read from standard input\n";
+
+/// What is written where no log is read.
+#[derive(Drop)]
+enum Text {
+    /// How the program is used.
+    Help,
+    /// The version.
+    Version,
+    /// That the arguments are bad.
+    BadArgument,
+}
+
+impl Outcome for Text {
+    ghost status = { text_status };
+
+    ghost on_output = { text_on_output };
+
+    ghost on_errors = { text_on_errors };
+
+    fn status(&self) -> u8 {
+        let status = match self {
+            Text::Help | Text::Version => Status::Good,
+            Text::BadArgument => Status::Unusable,
+        };
+        status.number()
+    }
+
+    fn output(&self) -> &[u8] {
+        match self {
+            Text::Help => HELP.as_bytes(),
+            Text::Version => VERSION.as_bytes(),
+            Text::BadArgument => &[],
+        }
+    }
+
+    fn write_errors<E: Sink>(&self, errors: &mut E) -> io::Result<()> {
+        match self {
+            Text::Help | Text::Version => Ok(()),
+            Text::BadArgument => write_whole(errors, BAD_ARGUMENT.as_bytes()),
+        }
+    }
+}
 
 /// Judges the log that the reader gives, or writes how the program is used or its version, and
 /// returns its status. The first argument is the program's name. What progress writes goes to a
@@ -61,7 +105,6 @@ const BAD_ARGUMENT: &str = "bad argument: expected svg, --witness, --progress, -
 /// - 1: the log does not conform.
 /// - 2: an argument or a line is bad, or a bound on open calls or configurations was passed.
 /// - 3: memory was refused, or a read, a write or a flush failed.
-#[tactic(auto, using(crate::proofs::Apart::help_is_no_check))]
 fn conform_streams<R: Source, W: Sink, E: Sink, P: Progress>(
     alloc: Global,
     arguments: io::Result<Args>,
@@ -71,35 +114,43 @@ fn conform_streams<R: Source, W: Sink, E: Sink, P: Progress>(
     progress: &mut P,
 ) -> u8
     ensures range { result < 4 }
-    ensures ran { result < 3 → Ran arguments result (R.remaining input.old)
+    ensures ran { result < 3 → Ran arguments result
+        (R.remaining input.old) (R.remaining input.new)
         (W.contents output.old) (W.contents output.new)
         (E.contents errors.old) (E.contents errors.new) }
-    // After a verdict both writers were flushed last.
-    ensures flushed { result < 3 → RequestsCheck arguments
+    // Nothing was read but for a check or a picture.
+    ensures unread { (input.new ≡ input.old) ⊎ RequestsCheck arguments }
+    // Both writers were flushed last.
+    ensures flushed { result < 3
         → IsFlushed W.Flushes output.new × IsFlushed E.Flushes errors.new }
-    // All of a log was read.
-    ensures read { result < 3 → RequestsCheck arguments → IsAtEnd (R.remaining input.new) }
+    // Memory was refused, or a read, a write or a flush failed, and that was reported. Where the
+    // read failed, nothing was written before that.
+    ensures failed { result ≡ 3
+        → RefusesMemory (W.contents output.old) (W.contents output.new)
+        (E.contents errors.old) (E.contents errors.new)
+        ⊎ ((e : Error) × (before : E) × ReportsFailure E.contents E.Writes before errors.new
+        × ((ReadFails R.FailsBy input.new e × (output.new ≡ output.old) × (before ≡ errors.old))
+        ⊎ (Fails W.Writes W.FailsToFlush output.new e
+        ⊎ Fails E.Writes E.FailsToFlush before e))) }
     // Progress wrote counts of lines alone, and nothing where it was not requested.
     ensures progress { AddsCounts (P.contents progress.old) (P.contents progress.new) }
     ensures still { ¬ (RequestsProgress arguments) → progress.new ≡ progress.old }
 {
-    match request_of(arguments) {
+    let text = match request_of(arguments) {
         Ok(Request::Check(report)) => {
-            check_streams(alloc, input, output, errors, &mut NoProgress, report)
+            return check_streams(alloc, input, output, errors, &mut NoProgress, report);
         }
         Ok(Request::CheckWithProgress(report)) => {
-            check_streams(alloc, input, output, errors, progress, report)
+            return check_streams(alloc, input, output, errors, progress, report);
         }
-        Ok(Request::Picture) => draw_streams(alloc, input, output, errors),
-        Ok(Request::Help) => print(output, HELP, 0),
-        Ok(Request::Version) => print(output, VERSION, 0),
-        Err(RequestError::BadArgument) => print(errors, BAD_ARGUMENT, 2),
-        Err(RequestError::NoMemory) => {
-            // The status is 3 whether this is written or not.
-            let _written = print(errors, "no memory\n", 2);
-            3
-        }
-    }
+        Ok(Request::Picture) => return draw_streams(alloc, input, output, errors),
+        Ok(Request::Help) => Ok(Text::Help),
+        Ok(Request::Version) => Ok(Text::Version),
+        Err(RequestError::BadArgument) => Ok(Text::BadArgument),
+        Err(RequestError::NoMemory) => Err(AllocError),
+    };
+    let end = write_outcome(output, errors, &text);
+    report_failure(errors, end)
 }
 
 fn main(rt: HostRuntime) -> ExitCode {

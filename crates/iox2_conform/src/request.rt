@@ -1,11 +1,8 @@
-//! What the arguments request, and texts that are printed.
-ghost use Rattle.std.specs.Prelude.{◌≡◌, ◌<◌, ◌∷◌, [], IfErr, OnOk, drop};
-ghost use Rattle.std.specs.Io.KnownBytes.{Appends};
-ghost use Rattle.iox2_conform.specs.Requests.{Printed, Requests, RequestsIn, words_of};
-ghost use Rattle.line_streams.specs.Streams.{Fails, IsFlushed};
+//! What the arguments request.
+ghost use Rattle.std.specs.Prelude.{◌∷◌, [], drop};
+ghost use Rattle.iox2_conform.specs.Requests.{Requests, RequestsIn, words_of};
 
 use history_logs::logs::Report;
-use line_streams::{Sink, write_whole};
 use std::env::Args;
 use std::io;
 use std::io::{Error, ErrorKind};
@@ -32,8 +29,8 @@ pub(crate) enum RequestError {
     NoMemory,
 }
 
-/// What the arguments request: no word, `--witness`, `--progress` or both, `svg`, `--help` or
-/// `--version`. The first is the program's name.
+/// What the arguments request: no word, `--witness`, `--progress` or both, `svg`, `-h`, `--help`
+/// or `--version`. The first is the program's name.
 pub(crate) fn request_of(arguments: io::Result<Args>) -> Result<Request, RequestError>
     ensures { Requests arguments result }
 {
@@ -52,6 +49,7 @@ fn request_of_one(word: &str) -> Result<Request, RequestError>
         "--witness" => Ok(Request::Check(Report::Witness)),
         "--progress" => Ok(Request::CheckWithProgress(Report::Verdict)),
         "svg" => Ok(Request::Picture),
+        "-h" => Ok(Request::Help),
         "--help" => Ok(Request::Help),
         "--version" => Ok(Request::Version),
         _ => Err(RequestError::BadArgument),
@@ -86,29 +84,4 @@ fn request_in(words: Args) -> Result<Request, RequestError>
         return Err(RequestError::BadArgument);
     }
     request_of_two(first.as_str(), second.as_str())
-}
-
-/// Writes a text and flushes its writer.
-fn write_text<W: Sink>(out: &mut W, text: &str) -> io::Result<()>
-    ensures written { OnOk result (Appends (W.contents out.old) (W.contents out.new) text.now) }
-    ensures flushed { OnOk result (IsFlushed W.Flushes out.new) }
-    ensures failed { IfErr result (Fails W.Writes W.FailsToFlush out.new) }
-{
-    write_whole(out, text.as_bytes())?;
-    out.flush_pieces()
-}
-
-/// Writes a text, flushes its writer, and returns the status, below 3, or 3 where the writer fails.
-pub(crate) fn print<W: Sink>(out: &mut W, text: &str, status: u8) -> u8
-    requires { status < 3 }
-    ensures range { result < 4 }
-    ensures printed { result < 3
-        → Printed text.now status result (W.contents out.old) (W.contents out.new) }
-    ensures flushed { result < 3 → IsFlushed W.Flushes out.new }
-    ensures failed { result ≡ 3 → (e : Error) × Fails W.Writes W.FailsToFlush out.new e }
-{
-    match write_text(out, text) {
-        Ok(()) => status,
-        Err(_) => 3,
-    }
 }

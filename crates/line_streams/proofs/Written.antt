@@ -1,12 +1,14 @@
 -- Known bytes over several reads and writes, and what comes of what was read.
-use Rattle.std.proofs.Common.{◌≡◌, ℕ, ◌-◌, List, ◌++◌, length, take, drop, Option, Some, None, ap, sym, ◌∙◌, append_assoc, Result, Ok, Err, IfOk, IfSome, OnOk}
+use Rattle.std.proofs.Common.{◌≡◌, ◌<◌, ℕ, ◌-◌, List, [], ◌++◌, codes, length, take, drop, Option, Some, None, ap, arith, inl, inr, sym, ◌∙◌, append_assoc, Result, Ok, Err, IfOk, IfSome, OnOk}
 use Rattle.std.proofs.lemmas.List.{take-append-drop, take_rest}
 use Rattle.std.specs.Io.KnownBytes.{Appends, Consumes, IsAtEnd}
 use Rattle.std.specs.declared.alloc.AllocError.{AllocError}
 use Rattle.std.specs.declared.alloc.Global.{Global}
 use Rattle.std.specs.declared.io.Error.{Error}
 use Rattle.std.specs.declared.vec.Vec.{Vec}
-use Rattle.line_streams.specs.Filters.{Ran}
+use Rattle.line_streams.specs.Filters.{Ends, Ran, either, status_number}
+use Rattle.line_streams.specs.declared.streams.Status.{Status}
+use Rattle.line_streams.specs.declared.streams.Status.TheVariants.{Good, Faulty, Unusable}
 
 -- what was read, and then some more
 pub consumes_more : (a b c : Option (List ℕ)) (xs ys : List ℕ) → Consumes a b xs → Consumes b c ys
@@ -61,3 +63,32 @@ ran_where_written Works status_of on_output on_errors given left out_old out_new
     }
 ran_where_written Works status_of on_output on_errors given left out_old out_new err_old err_new
     read outcome (Err why) worked all end is_status output errors = tt
+
+pub status_small : (status : Status) → status_number status < 3
+status_small Good = omega arith
+status_small Faulty = omega arith
+status_small Unusable = omega arith
+
+-- what was done is reported where it was written, or memory was refused
+pub ends_where_written : {T : Type 0} (status_of : T → ℕ) (on_output on_errors : T → List ℕ)
+    (Does : T → Type 0) (Reported : ℕ → Type 0) (out_old out_new err_old err_new : Option (List ℕ))
+    (end : Result T AllocError) (wrote : Result ℕ Error)
+    → ((done : T) → status_of done < 3)
+    → ((done : T) → Does done → Appends out_old out_new (on_output done)
+    → Appends err_old err_new (on_errors done) → Reported (status_of done))
+    → IfOk end Does
+    → IfOk wrote (λ status. status ≡ either status_of (λ why. 3) end)
+    → OnOk wrote (Appends out_old out_new (either on_output (λ why. []) end))
+    → OnOk wrote (Appends err_old err_new (either on_errors (λ why. codes "no memory\n") end))
+    → IfOk wrote (λ status. Ends Reported status out_old out_new err_old err_new)
+ends_where_written status_of on_output on_errors Does Reported a b e f (Ok done) (Ok status) small
+    reports does is output errors =
+    inl (
+      rw is (small done),
+      rw is (reports done does output errors),
+    )
+ends_where_written status_of on_output on_errors Does Reported a b e f (Err why) (Ok status) small
+    reports does is output errors =
+    inr (is, (output, errors))
+ends_where_written status_of on_output on_errors Does Reported a b e f end (Err why) small reports
+    does is output errors = tt

@@ -1,5 +1,5 @@
 -- What a program makes of what it reads.
-use Rattle.std.specs.Prelude.{◌≡◌, ℕ, List, Option, Result, Ok, Err, IfOk, IfSome, OnOk}
+use Rattle.std.specs.Prelude.{◌≡◌, ◌<◌, ◌⊎◌, ℕ, List, [], Option, Result, Ok, Err, IfOk, IfSome, OnOk, codes}
 use Rattle.std.specs.Io.KnownBytes.{Appends, IsAtEnd}
 use Rattle.std.specs.declared.alloc.AllocError.{AllocError}
 use Rattle.std.specs.declared.alloc.Global.{Global}
@@ -31,3 +31,17 @@ pub record Ran {T : Type 0} (Works : Result (Vec ℕ Global) AllocError → T �
   pub is_status : status ≡ status_of outcome
   pub output : Appends out_old out_new (on_output outcome)
   pub errors : Appends err_old err_new (on_errors outcome)
+
+-- memory was refused: the writers got nothing but that
+abbrev pub RefusesMemory : Option (List ℕ) → Option (List ℕ) → Option (List ℕ) → Option (List ℕ)
+    → Type 0
+RefusesMemory out_old out_new err_old err_new =
+    Appends out_old out_new [] × Appends err_old err_new (codes "no memory\n")
+
+-- how a program ends where no stream fails: this is reported with a status below 3, or memory was
+-- refused
+abbrev pub Ends : (ℕ → Type 0) → ℕ → Option (List ℕ) → Option (List ℕ) → Option (List ℕ)
+    → Option (List ℕ) → Type 0
+Ends Reported status out_old out_new err_old err_new =
+    ((status < 3) × Reported status)
+    ⊎ ((status ≡ 3) × RefusesMemory out_old out_new err_old err_new)

@@ -1,5 +1,5 @@
 -- What a failed stream has read or written.
-use Rattle.std.specs.Prelude.{◌≡◌, ◌≢◌, ◌⊎◌, ℕ, List, [], ◌++◌, Option, Result, Ok, Err}
+use Rattle.std.specs.Prelude.{◌≡◌, ◌≢◌, ◌⊎◌, ℕ, List, [], ◌++◌, Option, Result, Ok, Err, codes}
 use Rattle.std.specs.Io.KnownBytes.{Appends, Consumes}
 use Rattle.std.specs.IoError.{error_kind}
 use Rattle.std.specs.declared.io.Error.{Error}
@@ -34,3 +34,11 @@ IsFlushed {W} flushes now = (before : W) × flushes before now
 abbrev pub Fails : {W : Type 0} → (W → List ℕ → Result ℕ Error → W → Type 0)
     → (W → Error → W → Type 0) → W → Error → Type 0
 Fails {W} writes fails now e = WriteFails writes now e ⊎ ((before : W) × fails before e now)
+
+-- `a stream failed` was written, or a write of it failed
+abbrev pub ReportsFailure : {W : Type 0} → (W → Option (List ℕ))
+    → (W → List ℕ → Result ℕ Error → W → Type 0) → W → W → Type 0
+ReportsFailure {W} contents writes old now =
+    Appends (contents old) (contents now) (codes "a stream failed\n")
+    ⊎ (AppendsBeginning (contents old) (contents now) (codes "a stream failed\n")
+    × ((e : Error) × WriteFails writes now e))

@@ -10,7 +10,7 @@ ghost use Rattle.std.specs.Io.KnownBytes.{Appends, IsAtEnd, Keeps, ReadConsumes,
 ghost use Rattle.std.specs.declared.io.Error.{Error};
 ghost use Rattle.line_streams.specs.Filters.{Ran, either, status_number};
 ghost use Rattle.line_streams.specs.Streams.{AppendsBeginning, ConsumesSome, Fails, IsFlushed};
-ghost use Rattle.line_streams.specs.Streams.{ReadFails, WriteFails};
+ghost use Rattle.line_streams.specs.Streams.{ReadFails, ReportsFailure, WriteFails};
 
 use std::alloc::{AllocError, Global};
 use std::io;
@@ -268,6 +268,11 @@ pub fn write_outcome<W: Sink, E: Sink, T: Outcome>(
         (IsFlushed W.Flushes output.new × IsFlushed E.Flushes errors.new) }
     ensures failed { IfErr result (λ e. Fails W.Writes W.FailsToFlush output.new e
         ⊎ Fails E.Writes E.FailsToFlush errors.new e) }
+    // Where the output did not get all, the errors got nothing.
+    ensures first { OnErr result
+        ((AppendsBeginning (W.contents output.old) (W.contents output.new)
+        (T.on_output outcome.now) × (errors.new ≡ errors.old))
+        ⊎ Appends (W.contents output.old) (W.contents output.new) (T.on_output outcome.now)) }
 {
     write_whole(output, outcome.output())?;
     outcome.write_errors(errors)?;
@@ -298,7 +303,9 @@ where
         (E.contents errors.old) (E.contents errors.new)) }
     ensures flushed { OnOk result
         (IsFlushed W.Flushes output.new × IsFlushed E.Flushes errors.new) }
-    ensures failed { IfErr result (λ e. ReadFails R.FailsBy input.new e
+    // Where the read failed, nothing was written.
+    ensures failed { IfErr result (λ e. (ReadFails R.FailsBy input.new e
+        × (output.new ≡ output.old) × (errors.new ≡ errors.old))
         ⊎ (Fails W.Writes W.FailsToFlush output.new e
         ⊎ Fails E.Writes E.FailsToFlush errors.new e)) }
 {
@@ -310,7 +317,8 @@ where
 /// `a stream failed` to the errors.
 pub fn report_failure<E: Sink>(errors: &mut E, end: io::Result<u8>) -> u8
     ensures ok { IfOk end (λ status. result ≡ status × errors.new ≡ errors.old) }
-    ensures err { OnErr end (result ≡ 3) }
+    ensures err { OnErr end (result ≡ 3
+        × ReportsFailure E.contents E.Writes errors.old errors.new) }
 {
     match end {
         Ok(status) => status,

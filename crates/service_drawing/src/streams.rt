@@ -247,7 +247,8 @@ fn run<R: Source, W: Sink, E: Sink>(
         (E.contents errors.old) (E.contents errors.new)) }
     ensures flushed { OnOk result
         (IsFlushed W.Flushes output.new × IsFlushed E.Flushes errors.new) }
-    ensures failed { IfErr result (λ e. ReadFails R.FailsBy input.new e
+    ensures failed { IfErr result (λ e. (ReadFails R.FailsBy input.new e
+        × (output.new ≡ output.old) × (errors.new ≡ errors.old))
         ⊎ (Fails W.Writes W.FailsToFlush output.new e
         ⊎ Fails E.Writes E.FailsToFlush errors.new e)) }
 {
@@ -285,7 +286,8 @@ pub fn describe_streams<R: Source, W: Sink, E: Sink>(
     ensures flushed { result < 3
         → IsFlushed W.Flushes output.new × IsFlushed E.Flushes errors.new }
     // A read, a write or a flush failed, and that stream was left as it was then.
-    ensures failed { result ≡ 3 → (e : Error) × (ReadFails R.FailsBy input.new e
+    ensures failed { result ≡ 3 → (e : Error) × ((ReadFails R.FailsBy input.new e
+        × (output.new ≡ output.old) × (errors.new ≡ errors.old))
         ⊎ (Fails W.Writes W.FailsToFlush output.new e
         ⊎ Fails E.Writes E.FailsToFlush errors.new e)) }
 {

@@ -1,22 +1,21 @@
 -- What is said of two configurations, and how the program ends.
-use Rattle.std.proofs.Common.{◌≡◌, inl, inr, ℕ, true, Bool, List, [], ◌∷◌, ◌≤◌, length, map, get_or, codes, Option, Some, None, IfOk, Result, Ok, Err, refl, arith, string_bytes}
+use Rattle.std.proofs.Common.{◌≡◌, inl, inr, ℕ, Bool, List, [], ◌∷◌, ◌≤◌, length, map, get_or, Option, Some, None, Result, Ok, Err, refl, arith, string_bytes}
 use Rattle.std.specs.Bool.{MatchBool}
-use Rattle.std.specs.Prelude.{String, OnOk}
+use Rattle.std.specs.Prelude.{String}
 use Rattle.std.specs.Io.KnownBytes.{Appends, IsAtEnd}
 use Rattle.std.proofs.lemmas.List.Elements.{All-append, All-cons, All-head, All-nil, All-tail}
 use Rattle.std.proofs.lemmas.Result.{IfOk-weaker}
-use Rattle.std.specs.declared.alloc.AllocError.{AllocError}
 use Rattle.std.specs.declared.alloc.Global.{Global}
 use Rattle.std.specs.declared.io.Error.{Error}
 use Rattle.std.specs.declared.vec.IntoIter.{IntoIter}
-use Rattle.line_streams.specs.Filters.{either, status_number}
+use Rattle.line_streams.specs.Filters.{status_number}
 use Rattle.iox2_config.specs.declared.config.Config.{Config}
 use Rattle.config_report.specs.Text.{IsReportText}
 use Rattle.config_report.specs.Findings.{Checks, IsToml}
 use Rattle.config_report.specs.declared.finding.Findings.{Findings}
 use Rattle.settings_check.specs.Answer.{AreToml, IsTextOf}
 use Rattle.settings_check.specs.Found.{AddsFiles, AreFound, AreParsed, IsSeenIn, Seen, ValidFile, nothing_seen, valid_in, valid_view}
-use Rattle.settings_check.specs.Answer.{input_is_read, AnswersArguments, Ends}
+use Rattle.settings_check.specs.Answer.{input_is_read, AnswersArguments, Reported}
 use Rattle.settings_check.specs.Words.{Requests}
 use Rattle.settings_check.specs.declared.answer.Answer.{Answer}
 use Rattle.settings_check.specs.declared.arguments.Request.{Request}
@@ -83,36 +82,24 @@ pub found_toml : (Gives : List ℕ → Result (List ℕ) FileError → Type 0) (
 found_toml Gives input files seen is =
     files_toml Gives input files nothing_seen seen (All-nil HasToml) is
 
--- where an outcome was written, the arguments are answered, or memory was refused
-pub ends_where_written : (Gives : List ℕ → Result (List ℕ) FileError → Type 0) (coloured : Bool)
+-- an answer that was written is reported
+pub answer_reported : (Gives : List ℕ → Result (List ℕ) FileError → Type 0) (coloured : Bool)
     (arguments : Result (IntoIter (String Global) Global) Error)
-    (parsed : Result Request RequestError) (end : Result Answer AllocError) (wrote : Result ℕ Error)
-    (given left out_old out_new err_old err_new : Option (List ℕ)) → Requests arguments parsed
-    → IfOk end (AnswersArguments Gives coloured parsed given)
-    → OnOk end (MatchBool (input_is_read parsed) (IsAtEnd left) (left ≡ given))
-    → IfOk wrote (λ status. status ≡ either (λ answer. status_number answer.status) (λ why. 3) end)
-    → OnOk wrote (Appends out_old out_new
-    (either (λ answer. string_bytes answer.output) (λ why. []) end))
-    → OnOk wrote (Appends err_old err_new
-    (either (λ answer. string_bytes answer.errors) (λ why. codes "no memory\n") end))
-    → IfOk wrote (λ status.
-    Ends Gives coloured arguments status given left out_old out_new err_old err_new)
-ends_where_written _ _ _ parsed (Ok answer) (Ok status) _ _ _ _ _ _ requests answered read reported
-    output errors =
-    inl (record {
-      parsed = parsed;
-      answer = answer;
-      requests = requests;
-      answered = answered;
-      reported = reported;
-      read = read;
-      output = output;
-      errors = errors;
-    })
-ends_where_written _ _ _ parsed (Err refused) (Ok status) _ _ _ _ _ _ requests answered read
-    reported
-    output errors =
-    inr (reported, (output, errors))
-ends_where_written _ _ _ parsed end (Err why) _ _ _ _ _ _ requests answered read reported output
-    errors =
-    tt
+    (parsed : Result Request RequestError) (given left out_old out_new err_old err_new :
+    Option (List ℕ)) → Requests arguments parsed → (answer : Answer)
+    → (AnswersArguments Gives coloured parsed given answer
+    × MatchBool (input_is_read parsed) (IsAtEnd left) (left ≡ given))
+    → Appends out_old out_new (string_bytes answer.output)
+    → Appends err_old err_new (string_bytes answer.errors)
+    → Reported Gives coloured arguments (status_number answer.status) given left out_old out_new
+    err_old err_new
+answer_reported _ _ _ parsed _ _ _ _ _ _ requests answer does output errors = record {
+  parsed = parsed;
+  answer = answer;
+  requests = requests;
+  answered = does.0;
+  reported = refl;
+  read = does.1;
+  output = output;
+  errors = errors;
+}

@@ -1,5 +1,5 @@
 -- What is answered to a request, and what the streams of the program get.
-use Rattle.std.specs.Prelude.{◌≡◌, ℕ, Bool, true, false, ◌&&◌, ◌||◌, nat_lt, List, [], ◌∷◌, ◌++◌, flat_map, length, if◌then◌else◌, slice_get, codes, ◌⊎◌, Option, Some, None, IfSome, Result, Ok, Err, String, string_bytes}
+use Rattle.std.specs.Prelude.{◌≡◌, ℕ, Bool, true, false, ◌&&◌, ◌||◌, nat_lt, List, [], ◌∷◌, ◌++◌, flat_map, length, if◌then◌else◌, slice_get, codes, Option, Some, None, IfSome, Result, Ok, Err, String, string_bytes}
 use Rattle.std.specs.Bool.{MatchBool}
 use Rattle.std.specs.Io.KnownBytes.{Appends, IsAtEnd}
 use Rattle.std.specs.List.{All, list_any}
@@ -177,17 +177,3 @@ pub record Reported (Gives : List ℕ → Result (List ℕ) FileError → Type 0
   pub read : MatchBool (input_is_read parsed) (IsAtEnd left) (left ≡ given)
   pub output : Appends out_old out_new (string_bytes answer.output)
   pub errors : Appends err_old err_new (string_bytes answer.errors)
-
--- memory was refused: nothing was written but that
-abbrev pub RefusesMemory : Option (List ℕ) → Option (List ℕ) → Option (List ℕ) → Option (List ℕ)
-    → Type 0
-RefusesMemory out_old out_new err_old err_new =
-    Appends out_old out_new [] × Appends err_old err_new (codes "no memory\n")
-
--- how the program ends where no stream fails
-abbrev pub Ends : (List ℕ → Result (List ℕ) FileError → Type 0) → Bool
-    → Result (IntoIter (String Global) Global) Error → ℕ → Option (List ℕ) → Option (List ℕ)
-    → Option (List ℕ) → Option (List ℕ) → Option (List ℕ) → Option (List ℕ) → Type 0
-Ends Gives coloured arguments status given left out_old out_new err_old err_new =
-    Reported Gives coloured arguments status given left out_old out_new err_old err_new
-    ⊎ ((status ≡ 3) × RefusesMemory out_old out_new err_old err_new)

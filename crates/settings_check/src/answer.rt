@@ -3,13 +3,12 @@ ghost use Rattle.std.specs.Prelude.{◌≡◌, ◌<◌, ◌⊎◌, true, IfErr, 
 ghost use Rattle.std.specs.Prelude.{option_map, string_bytes};
 ghost use Rattle.std.specs.Bool.{MatchBool};
 ghost use Rattle.std.specs.Io.KnownBytes.{IsAtEnd};
-ghost use Rattle.line_streams.specs.Filters.{status_number};
+ghost use Rattle.line_streams.specs.Filters.{Ends, RefusesMemory, status_number};
 ghost use Rattle.line_streams.specs.Streams.{Fails, IsFlushed, ReadFails};
 ghost use Rattle.settings_check.specs.Answer.{status_of, IsChecked, IsTextOf, IsShown};
 ghost use Rattle.settings_check.specs.Answer.{AreToml, AnswersFiles, omitted_in, with_compared};
 ghost use Rattle.settings_check.specs.Answer.{IsDefaultAnswer, IsRefusedAnswer, IsSchemaAnswer, IsTextAnswer, Answers};
 ghost use Rattle.settings_check.specs.Answer.{reads_input, input_is_read, AnswersArguments, Reported};
-ghost use Rattle.settings_check.specs.Answer.{Ends, RefusesMemory};
 ghost use Rattle.settings_check.specs.Found.{found_view, valid_view};
 
 use crate::arguments::{Request, RequestError, Task, request_of};
@@ -288,10 +287,10 @@ fn answered<R: Source, F: Files>(
     parsed: &Result<Request, RequestError>,
     input: &mut R,
 ) -> io::Result<Result<Answer, AllocError>>
-    ensures answered { IfOk result (λ end. IfOk end (AnswersArguments (F.Gives files.now)
-        coloured parsed.now (R.remaining input.old))) }
-    ensures read { IfOk result (λ end. OnOk end (MatchBool (input_is_read parsed.now)
-        (IsAtEnd (R.remaining input.new)) (R.remaining input.new ≡ R.remaining input.old))) }
+    ensures answered { IfOk result (λ end. IfOk end (λ answer.
+        AnswersArguments (F.Gives files.now) coloured parsed.now (R.remaining input.old) answer
+        × MatchBool (input_is_read parsed.now) (IsAtEnd (R.remaining input.new))
+        (R.remaining input.new ≡ R.remaining input.old))) }
     ensures failed { IfErr result (ReadFails R.FailsBy input.new) }
 {
     if !reads(parsed) {
@@ -313,13 +312,16 @@ fn run<R: Source, W: Sink, E: Sink, F: Files>(
     output: &mut W,
     errors: &mut E,
 ) -> io::Result<u8>
-    ensures ends { IfOk result (λ status. Ends (F.Gives files.now) coloured arguments status
-        (R.remaining input.old) (R.remaining input.new)
+    ensures ends { IfOk result (λ status. Ends (λ n. Reported (F.Gives files.now) coloured
+        arguments n (R.remaining input.old) (R.remaining input.new)
+        (W.contents output.old) (W.contents output.new)
+        (E.contents errors.old) (E.contents errors.new)) status
         (W.contents output.old) (W.contents output.new)
         (E.contents errors.old) (E.contents errors.new)) }
     ensures flushed { OnOk result
         (IsFlushed W.Flushes output.new × IsFlushed E.Flushes errors.new) }
-    ensures failed { IfErr result (λ e. ReadFails R.FailsBy input.new e
+    ensures failed { IfErr result (λ e. (ReadFails R.FailsBy input.new e
+        × (output.new ≡ output.old) × (errors.new ≡ errors.old))
         ⊎ (Fails W.Writes W.FailsToFlush output.new e
         ⊎ Fails E.Writes E.FailsToFlush errors.new e)) }
 {
@@ -361,7 +363,8 @@ pub fn check_streams<R: Source, W: Sink, E: Sink, F: Files>(
     ensures failed { result ≡ 3
         → RefusesMemory (W.contents output.old) (W.contents output.new)
         (E.contents errors.old) (E.contents errors.new)
-        ⊎ ((e : Error) × (ReadFails R.FailsBy input.new e
+        ⊎ ((e : Error) × ((ReadFails R.FailsBy input.new e
+        × (output.new ≡ output.old) × (errors.new ≡ errors.old))
         ⊎ (Fails W.Writes W.FailsToFlush output.new e
         ⊎ Fails E.Writes E.FailsToFlush errors.new e))) }
 {

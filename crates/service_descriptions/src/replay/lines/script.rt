@@ -222,7 +222,8 @@ pub fn run_streams<R: Source, W: Sink, E: Sink>(
     ensures flushed { result < 3
         → IsFlushed W.Flushes output.new × IsFlushed E.Flushes errors.new }
     // A read, a write or a flush failed, and that stream was left as it was then.
-    ensures failed { result ≡ 3 → (e : Error) × (ReadFails R.FailsBy input.new e
+    ensures failed { result ≡ 3 → (e : Error) × ((ReadFails R.FailsBy input.new e
+        × (output.new ≡ output.old) × (errors.new ≡ errors.old))
         ⊎ (Fails W.Writes W.FailsToFlush output.new e
         ⊎ Fails E.Writes E.FailsToFlush errors.new e)) }
     // All input was read, unless memory ran out.
