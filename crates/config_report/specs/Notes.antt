@@ -1,5 +1,5 @@
 -- What is said of a file of settings, and where in it the keys stand.
-use Rattle.std.specs.Prelude.{ℕ, List, [], ◌∷◌, ◌++◌, codes, length, nat_le, if◌then◌else◌, Option, Some, None, Bool, option_map, string_bytes}
+use Rattle.std.specs.Prelude.{ℕ, List, [], ◌∷◌, ◌++◌, codes, flat_map, length, nat_le, if◌then◌else◌, Option, Some, None, Bool, option_map, string_bytes}
 use Rattle.config_report.specs.Prelude.{decimal, Position, list_all, reason_text, Located, fault_view, Proposed, Unknown, unknown_view, prefix_of, table_path, Finding, Error, Warning}
 use Rattle.toml_positions.specs.Written.{position_in}
 use Rattle.iox2_config_file.specs.declared.fault.SettingFault.{SettingFault}
@@ -7,6 +7,7 @@ use Rattle.iox2_config_file.specs.declared.proposal.Likeness.TheVariants.{Quoted
 use Rattle.iox2_config_file.specs.declared.unknown.UnknownKey.{UnknownKey}
 use Rattle.config_report.specs.declared.finding.Severity.{Severity}
 use Rattle.config_report.specs.Printable.{printable}
+use Rattle.toml_parser.specs.Strings.{Key}
 use Rattle.toml_writer.specs.Text.{key_text}
 
 -- the position of a path in a file of at most 128 KiB, if an expression writes it
@@ -99,6 +100,10 @@ unknown_position bytes key = topic_position bytes (unknown key)
 -- what is said of it in a file
 abbrev pub note_in : List ℕ → Topic → Note
 note_in bytes topic = topic_note (topic_position bytes topic) topic
+
+-- a key, each of its parts as TOML writes it
+abbrev pub dotted_text : Key → List ℕ
+dotted_text key = flat_map (λ part. key_text part ++ codes ".") key.0 ++ key_text key.1
 
 -- how much it weighs, in words
 abbrev pub severity_text : Severity → List ℕ

@@ -19,6 +19,7 @@ use crate::contradictions::contradictions_in;
 use crate::finding::{
     Finding, Findings, Severity, Subject, in_line, key_positions, position_at, sort_key,
 };
+use crate::syntax::syntax_words;
 use crate::text::write_text;
 use iox2_config::config::Config;
 use iox2_config_file::{ConfigFileError, FileContents, read_config, too_deep, write_config};
@@ -193,66 +194,8 @@ fn no_toml(alloc: Global, text: &str, error: &toml::de::Error) -> Result<Finding
 {
     let bytes = text.as_bytes();
     let start = start_of(error, bytes);
-    let before = text.get(..start).unwrap_or("");
-    let words = syntax_words(alloc, error, before, text.get(start..).unwrap_or(""))?;
+    let words = syntax_words(alloc, error, text, text.get(start..).unwrap_or(""))?;
     error_behind(alloc, &bytes[..start], words.as_str())
-}
-
-/// Why a text is no TOML: the words of `toml`, with the key that is written twice or whose number
-/// is out of range, or with more of what a value may be. The texts are those before the error and
-/// from it on.
-fn syntax_words(
-    alloc: Global,
-    error: &toml::de::Error,
-    before: &str,
-    text: &str,
-) -> Result<String, AllocError> {
-    match error.message() {
-        "duplicate key" => format!(in alloc; "duplicate key `{}`", first_key(text)),
-        "number out of range" => {
-            format!(in alloc; "number out of range for the key `{}`", key_before(before))
-        }
-        words if tells_no_value(words, text) => String::from_str(
-            alloc,
-            "invalid value, expected a string in quotes, a number, `true`, `false`, a date-time, \
-             an array or an inline table",
-        ),
-        words => String::from_str(alloc, words),
-    }
-}
-
-/// Whether the words say that a value is none. `toml` takes a string without quotes for a number if
-/// it has a `_`.
-fn tells_no_value(words: &str, text: &str) -> bool {
-    words == "invalid value, expected a string, number, boolean, date-time, array or inline table"
-        || (words == "`_` may only go between digits"
-            && text.starts_with(|c: char| c.is_ascii_alphabetic()))
-}
-
-/// The key that a text begins with: what stands in its quotes, or before the `=` of the pair or the
-/// bracket that ends the header.
-fn first_key(text: &str) -> &str {
-    let text = text.trim_start_matches('[').trim_start();
-    for quote in ['"', '\''] {
-        if let Some(quoted) = text.strip_prefix(quote) {
-            let (key, _) = quoted.split_once(quote).unwrap_or((quoted, ""));
-            return key;
-        }
-    }
-    let (key, _) = text
-        .split_once(|c| c == '=' || c == ']')
-        .unwrap_or((text, ""));
-    key.trim_ascii()
-}
-
-/// The key of the value in which a text ends: what stands before the last `=`, on its line or in
-/// its inline table.
-fn key_before(text: &str) -> &str {
-    let (before, _) = text.rsplit_once('=').unwrap_or(("", ""));
-    let (_, key) = before
-        .rsplit_once(|c| c == '\n' || c == '{' || c == ',')
-        .unwrap_or(("", before));
-    key.trim_ascii()
 }
 
 /// How many bytes stand before the one at which a text is found to be no TOML.

@@ -11,6 +11,7 @@ mod contradictions;
 mod finding;
 pub mod laws;
 mod printable;
+mod syntax;
 mod text;
 
 pub use check::{

@@ -7,7 +7,7 @@ use std::process::Abort;
 use std::test::Fail;
 
 /// A file, and what is reported of it.
-const REPORTED: [(&[u8], &str); 20] = [
+const REPORTED: [(&[u8], &str); 37] = [
     (
         b"# two faults\n[global]\nprefix = 1\n[defaults.event]\n\t\"max-nodes\" = -1\n",
         "3:1: error: global.prefix: is an integer, and a string with the name of a file is wanted\n\
@@ -85,7 +85,73 @@ const REPORTED: [(&[u8], &str); 20] = [
     ),
     (
         b"'a=b' = 1\n'a=b' = 2\n",
-        "2:1: error: duplicate key `a=b`\n",
+        "2:1: error: duplicate key `\"a=b\"`\n",
+    ),
+    (
+        b"[defaults.event]\nx = [\"a=b\", 99999999999999999999]\n",
+        "2:13: error: number out of range for the key `x`\n",
+    ),
+    (
+        b"[defaults.event]\nx = [ # a=b\n99999999999999999999]\n",
+        "3:1: error: number out of range for the key `x`\n",
+    ),
+    (
+        b"[defaults.event]\n\"a,b\" = 99999999999999999999\n",
+        "2:9: error: number out of range for the key `\"a,b\"`\n",
+    ),
+    (
+        b"[defaults.event]\nx = [{a = 1}, 99999999999999999999]\n",
+        "2:15: error: number out of range for the key `x`\n",
+    ),
+    (
+        b"\xEF\xBB\xBFmax-nodes = 99999999999999999999\n",
+        "1:13: error: number out of range for the key `max-nodes`\n",
+    ),
+    (
+        b"[[ a ]] # [\n\nb = \"\"\"\n\\\"\"\"c = [{\n\"\"\"\nd = '''\n{ e = \\'''\n\
+          f.'g' = 99999999999999999999\n",
+        "8:9: error: number out of range for the key `f.g`\n",
+    ),
+    (
+        b"a = { b = '}', c.d = [ [ ], { e = [ 1 ], }, 1.5, 99999999999999999999 ] }\n",
+        "1:50: error: number out of range for the key `c.d`\n",
+    ),
+    (
+        b"a = [ { b = 1,\n  c = true }, { d = { }, e = [ [ 99999999999999999999 ] ] } ]\n",
+        "2:34: error: number out of range for the key `e`\n",
+    ),
+    (
+        b"a = { b = { c = 1 }, d = 2 }\ne = { f = {}, g = 99999999999999999999 }\n",
+        "2:19: error: number out of range for the key `g`\n",
+    ),
+    (
+        b"\"global\".prefix = \"a\"\n\"global\".prefix = \"a\"\n",
+        "2:1: error: duplicate key `global.prefix`\n",
+    ),
+    (
+        b"[\"a\".b]\n[\"a\".b]\n",
+        "2:1: error: duplicate key `a.b`\n",
+    ),
+    (
+        b"\"a\\\"b\" = 1\n\"a\\\"b\" = 1\n",
+        "2:1: error: duplicate key `'a\"b'`\n",
+    ),
+    (
+        b"[a.\"b]c\"]\n[a.\"b]c\"]\n",
+        "2:1: error: duplicate key `a.\"b]c\"`\n",
+    ),
+    (
+        b"a = [ { b.c = 1, b . 'c' = 2 } ]\n",
+        "1:18: error: duplicate key `b.c`\n",
+    ),
+    (b"a = 1\n[[ a ]]\n", "2:1: error: duplicate key `a`\n"),
+    (
+        b"a = 1\n[ a.b ]\n",
+        "2:1: error: cannot extend a value with the key `a.b`\n",
+    ),
+    (
+        b"a = 1\na.'b c' = 2\n",
+        "2:1: error: cannot extend a value with the key `a.\"b c\"`\n",
     ),
 ];
 
