@@ -8,6 +8,7 @@ use Rattle.std.specs.declared.io.Error.{Error}
 use Rattle.std.specs.declared.io.ErrorKind.TheVariants.{OutOfMemory}
 use Rattle.service_drawing.specs.declared.streams.Request.{Request}
 use Rattle.service_drawing.specs.declared.streams.Request.TheVariants.{Drawing, Help, Version}
+use Rattle.service_drawing.specs.declared.streams.Form.{Form}
 use Rattle.service_drawing.specs.declared.streams.Form.TheVariants.{Text, Svg}
 use Rattle.service_drawing.specs.declared.fault.Fault.{Fault}
 use Rattle.service_drawing.specs.declared.streams.Written.{Written}
@@ -56,6 +57,10 @@ IsRequestOf (Err why) other = ⊥
 abbrev pub IsRead : Result Request Fault → Type 0
 IsRead (Ok (Drawing form)) = Unit {0}
 IsRead request = ⊥
+
+-- the arguments request a drawing
+abbrev pub RequestsDrawing : Result (IntoIter (String Global) Global) Error → Type 0
+RequestsDrawing arguments = (form : Form) × IsRequestOf arguments (Ok (Drawing form))
 
 -- this text, or there is no memory for it
 abbrev pub IsTextOrNoMemory : List ℕ → Result Written Fault → Type 0

@@ -4,6 +4,7 @@ ghost use Rattle.std.specs.Prelude.{string_bytes};
 ghost use Rattle.service_drawing.specs.Descriptions.{IsNotOver, IsOver};
 ghost use Rattle.service_drawing.specs.Streams.{IsRequest, IsRequestOf, words_of, IsRead};
 ghost use Rattle.service_drawing.specs.Streams.{IsTextOrNoMemory, Draws, Answers, Reported};
+ghost use Rattle.service_drawing.specs.Streams.{RequestsDrawing};
 ghost use Rattle.std.specs.Io.KnownBytes.{IsAtEnd};
 ghost use Rattle.line_streams.specs.Streams.{Fails, IsFlushed, ReadFails};
 
@@ -207,6 +208,7 @@ fn answer<R: Source>(
     ensures read { IfOk result (λ end. IfOk end (λ written.
         IsRead request → IsAtEnd (R.remaining input.new))) }
     ensures failed { IfErr result (ReadFails R.FailsBy input.new) }
+    ensures unread { (input.new ≡ input.old) ⊎ IsRead request }
 {
     match request {
         Ok(Request::Drawing(form)) => match read_all(alloc, input)? {
@@ -251,6 +253,8 @@ fn run<R: Source, W: Sink, E: Sink>(
         × (output.new ≡ output.old) × (errors.new ≡ errors.old))
         ⊎ (Fails W.Writes W.FailsToFlush output.new e
         ⊎ Fails E.Writes E.FailsToFlush errors.new e)) }
+    // Nothing was read but for a drawing.
+    ensures unread { (input.new ≡ input.old) ⊎ RequestsDrawing arguments }
 {
     let end = answer(alloc, request_by(arguments), input)?;
     write_outcome(output, errors, &end)
@@ -290,6 +294,8 @@ pub fn describe_streams<R: Source, W: Sink, E: Sink>(
         × (output.new ≡ output.old) × (errors.new ≡ errors.old))
         ⊎ (Fails W.Writes W.FailsToFlush output.new e
         ⊎ Fails E.Writes E.FailsToFlush errors.new e)) }
+    // Nothing was read but for a drawing.
+    ensures unread { (input.new ≡ input.old) ⊎ RequestsDrawing arguments }
 {
     run(alloc, arguments, input, output, errors).unwrap_or(3)
 }
