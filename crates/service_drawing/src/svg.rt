@@ -76,7 +76,7 @@ impl Sheet {
     fn begin_line(&mut self, face: Face) -> Result<(), AllocError> {
         write!(
             self.drawn,
-            "<text x=\"{}\" y=\"{}\" dy=\"{}\" font-size=\"{}\" font-family=\"monospace\">",
+            "<text x=\"{}\" y=\"{}\" dy=\"{}\" font-size=\"{}\" font-family=\"monospace\" xml:space=\"preserve\">",
             face.left, self.top, face.size, face.size
         )
     }

@@ -115,21 +115,21 @@ required by an opener
 </g>
 <rect x=\"200\" y=\"1460\" width=\"140\" height=\"140\" class=\"part header\"/>
 <text x=\"440\" y=\"1460\" dy=\"115\">header: offset 0, 5 bytes</text>
-<text x=\"440\" y=\"1660\" dy=\"110\" font-size=\"110\" font-family=\"monospace\">alignment 4, H</text>
+<text x=\"440\" y=\"1660\" dy=\"110\" font-size=\"110\" font-family=\"monospace\" xml:space=\"preserve\">alignment 4, H</text>
 <rect x=\"200\" y=\"1870\" width=\"140\" height=\"140\" class=\"part empty\"/>
 <text x=\"440\" y=\"1870\" dy=\"115\">padding: offset 5, 3 bytes</text>
 <rect x=\"200\" y=\"2110\" width=\"140\" height=\"140\" class=\"part user-header\"/>
 <text x=\"440\" y=\"2110\" dy=\"115\">user header: offset 8, 3 bytes</text>
-<text x=\"440\" y=\"2310\" dy=\"110\" font-size=\"110\" font-family=\"monospace\">alignment 4, U</text>
+<text x=\"440\" y=\"2310\" dy=\"110\" font-size=\"110\" font-family=\"monospace\" xml:space=\"preserve\">alignment 4, U</text>
 <rect x=\"200\" y=\"2520\" width=\"140\" height=\"140\" class=\"part empty\"/>
 <text x=\"440\" y=\"2520\" dy=\"115\">padding: offset 11, 1 byte</text>
 <rect x=\"200\" y=\"2760\" width=\"140\" height=\"140\" class=\"part payload\"/>
 <text x=\"440\" y=\"2760\" dy=\"115\">payload: offset 12, 6 bytes</text>
-<text x=\"440\" y=\"2960\" dy=\"110\" font-size=\"110\" font-family=\"monospace\">alignment 2, P</text>
+<text x=\"440\" y=\"2960\" dy=\"110\" font-size=\"110\" font-family=\"monospace\" xml:space=\"preserve\">alignment 2, P</text>
 <rect x=\"200\" y=\"3170\" width=\"140\" height=\"140\" class=\"part empty\"/>
 <text x=\"440\" y=\"3170\" dy=\"115\">padding: offset 18, 2 bytes</text>
-<text x=\"200\" y=\"3470\" dy=\"110\" font-size=\"110\" font-family=\"monospace\">3 elements of 2 bytes</text>
-<text x=\"200\" y=\"3640\" dy=\"110\" font-size=\"110\" font-family=\"monospace\">data segment of a publisher: 34 chunks of 20 bytes, 680 bytes, of all 2 publishers: 1360 bytes</text>
+<text x=\"200\" y=\"3470\" dy=\"110\" font-size=\"110\" font-family=\"monospace\" xml:space=\"preserve\">3 elements of 2 bytes</text>
+<text x=\"200\" y=\"3640\" dy=\"110\" font-size=\"110\" font-family=\"monospace\" xml:space=\"preserve\">data segment of a publisher: 34 chunks of 20 bytes, 680 bytes, of all 2 publishers: 1360 bytes</text>
 </svg>
 ",
     ),
@@ -148,17 +148,17 @@ required by an opener
 </g>
 <rect x=\"200\" y=\"1460\" width=\"140\" height=\"140\" class=\"part header\"/>
 <text x=\"440\" y=\"1460\" dy=\"115\">header: offset 0, 90 bytes</text>
-<text x=\"440\" y=\"1660\" dy=\"110\" font-size=\"110\" font-family=\"monospace\">alignment 4, H</text>
+<text x=\"440\" y=\"1660\" dy=\"110\" font-size=\"110\" font-family=\"monospace\" xml:space=\"preserve\">alignment 4, H</text>
 <rect x=\"200\" y=\"1870\" width=\"140\" height=\"140\" class=\"part user-header\"/>
 <text x=\"440\" y=\"1870\" dy=\"115\">user header: offset 90, 2 bytes</text>
-<text x=\"440\" y=\"2070\" dy=\"110\" font-size=\"110\" font-family=\"monospace\">alignment 2, U</text>
+<text x=\"440\" y=\"2070\" dy=\"110\" font-size=\"110\" font-family=\"monospace\" xml:space=\"preserve\">alignment 2, U</text>
 <rect x=\"200\" y=\"2280\" width=\"140\" height=\"140\" class=\"part payload\"/>
 <text x=\"440\" y=\"2280\" dy=\"115\">payload: offset 92, 4 bytes</text>
-<text x=\"440\" y=\"2480\" dy=\"110\" font-size=\"110\" font-family=\"monospace\">alignment 1, P</text>
+<text x=\"440\" y=\"2480\" dy=\"110\" font-size=\"110\" font-family=\"monospace\" xml:space=\"preserve\">alignment 1, P</text>
 <rect x=\"200\" y=\"2690\" width=\"140\" height=\"140\" class=\"part empty\"/>
 <text x=\"440\" y=\"2690\" dy=\"115\">padding: offset 96, 4 bytes</text>
-<text x=\"200\" y=\"2990\" dy=\"110\" font-size=\"110\" font-family=\"monospace\">1 element of 4 bytes</text>
-<text x=\"200\" y=\"3160\" dy=\"110\" font-size=\"110\" font-family=\"monospace\">data segment of a publisher: 34 chunks of 100 bytes, 3400 bytes, of all 2 publishers: 6800 bytes</text>
+<text x=\"200\" y=\"2990\" dy=\"110\" font-size=\"110\" font-family=\"monospace\" xml:space=\"preserve\">1 element of 4 bytes</text>
+<text x=\"200\" y=\"3160\" dy=\"110\" font-size=\"110\" font-family=\"monospace\" xml:space=\"preserve\">data segment of a publisher: 34 chunks of 100 bytes, 3400 bytes, of all 2 publishers: 6800 bytes</text>
 </svg>
 ",
     ),
@@ -176,15 +176,15 @@ required by an opener
 </g>
 <rect x=\"200\" y=\"1460\" width=\"140\" height=\"140\" class=\"part header\"/>
 <text x=\"440\" y=\"1460\" dy=\"115\">header: offset 0, 11000 bytes</text>
-<text x=\"440\" y=\"1660\" dy=\"110\" font-size=\"110\" font-family=\"monospace\">alignment 8, H</text>
+<text x=\"440\" y=\"1660\" dy=\"110\" font-size=\"110\" font-family=\"monospace\" xml:space=\"preserve\">alignment 8, H</text>
 <rect x=\"200\" y=\"1870\" width=\"140\" height=\"140\" class=\"part user-header\"/>
 <text x=\"440\" y=\"1870\" dy=\"115\">user header: offset 11000, 0 bytes</text>
-<text x=\"440\" y=\"2070\" dy=\"110\" font-size=\"110\" font-family=\"monospace\">alignment 1, U</text>
+<text x=\"440\" y=\"2070\" dy=\"110\" font-size=\"110\" font-family=\"monospace\" xml:space=\"preserve\">alignment 1, U</text>
 <rect x=\"200\" y=\"2280\" width=\"140\" height=\"140\" class=\"part payload\"/>
 <text x=\"440\" y=\"2280\" dy=\"115\">payload: offset 11000, 1000 bytes</text>
-<text x=\"440\" y=\"2480\" dy=\"110\" font-size=\"110\" font-family=\"monospace\">alignment 1, P</text>
-<text x=\"200\" y=\"2750\" dy=\"110\" font-size=\"110\" font-family=\"monospace\">1000 elements of 1 byte</text>
-<text x=\"200\" y=\"2920\" dy=\"110\" font-size=\"110\" font-family=\"monospace\">data segment of a publisher: 34 chunks of 12000 bytes, 408000 bytes, of all 2 publishers: 816000 bytes</text>
+<text x=\"440\" y=\"2480\" dy=\"110\" font-size=\"110\" font-family=\"monospace\" xml:space=\"preserve\">alignment 1, P</text>
+<text x=\"200\" y=\"2750\" dy=\"110\" font-size=\"110\" font-family=\"monospace\" xml:space=\"preserve\">1000 elements of 1 byte</text>
+<text x=\"200\" y=\"2920\" dy=\"110\" font-size=\"110\" font-family=\"monospace\" xml:space=\"preserve\">data segment of a publisher: 34 chunks of 12000 bytes, 408000 bytes, of all 2 publishers: 816000 bytes</text>
 </svg>
 ",
     ),
@@ -203,17 +203,17 @@ required by an opener
 </g>
 <rect x=\"200\" y=\"1460\" width=\"140\" height=\"140\" class=\"part header\"/>
 <text x=\"440\" y=\"1460\" dy=\"115\">header: offset 0, 8 bytes</text>
-<text x=\"440\" y=\"1660\" dy=\"110\" font-size=\"110\" font-family=\"monospace\">alignment 1024, H</text>
+<text x=\"440\" y=\"1660\" dy=\"110\" font-size=\"110\" font-family=\"monospace\" xml:space=\"preserve\">alignment 1024, H</text>
 <rect x=\"200\" y=\"1870\" width=\"140\" height=\"140\" class=\"part user-header\"/>
 <text x=\"440\" y=\"1870\" dy=\"115\">user header: offset 8, 0 bytes</text>
-<text x=\"440\" y=\"2070\" dy=\"110\" font-size=\"110\" font-family=\"monospace\">alignment 1, U</text>
+<text x=\"440\" y=\"2070\" dy=\"110\" font-size=\"110\" font-family=\"monospace\" xml:space=\"preserve\">alignment 1, U</text>
 <rect x=\"200\" y=\"2280\" width=\"140\" height=\"140\" class=\"part payload\"/>
 <text x=\"440\" y=\"2280\" dy=\"115\">payload: offset 8, 600 bytes</text>
-<text x=\"440\" y=\"2480\" dy=\"110\" font-size=\"110\" font-family=\"monospace\">alignment 1, P</text>
+<text x=\"440\" y=\"2480\" dy=\"110\" font-size=\"110\" font-family=\"monospace\" xml:space=\"preserve\">alignment 1, P</text>
 <rect x=\"200\" y=\"2690\" width=\"140\" height=\"140\" class=\"part empty\"/>
 <text x=\"440\" y=\"2690\" dy=\"115\">padding: offset 608, 416 bytes</text>
-<text x=\"200\" y=\"2990\" dy=\"110\" font-size=\"110\" font-family=\"monospace\">600 elements of 1 byte</text>
-<text x=\"200\" y=\"3160\" dy=\"110\" font-size=\"110\" font-family=\"monospace\">data segment of a publisher: 34 chunks of 1024 bytes, 34816 bytes, of all 2 publishers: 69632 bytes</text>
+<text x=\"200\" y=\"2990\" dy=\"110\" font-size=\"110\" font-family=\"monospace\" xml:space=\"preserve\">600 elements of 1 byte</text>
+<text x=\"200\" y=\"3160\" dy=\"110\" font-size=\"110\" font-family=\"monospace\" xml:space=\"preserve\">data segment of a publisher: 34 chunks of 1024 bytes, 34816 bytes, of all 2 publishers: 69632 bytes</text>
 </svg>
 ",
     ),

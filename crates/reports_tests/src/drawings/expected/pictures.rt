@@ -42,7 +42,7 @@ opener 8 1 4
 <desc id=\"description\">A message of 48 bytes: a header of 16 bytes at offset 0, a user header of 4 bytes at offset 16, a payload of 2 elements at offset 24.</desc>
 ",
     end: "<rect class=\"page\" width=\"7600\" height=\"4000\"/>
-<text x=\"200\" y=\"150\" dy=\"150\" font-size=\"150\" font-family=\"monospace\">Shown (publish-subscribe)</text>
+<text x=\"200\" y=\"150\" dy=\"150\" font-size=\"150\" font-family=\"monospace\" xml:space=\"preserve\">Shown (publish-subscribe)</text>
 <text x=\"200\" y=\"480\" dy=\"150\" font-size=\"150\">message: 48 bytes, alignment 8</text>
 <g transform=\"translate(0 720)\">
 <rect x=\"200\" y=\"0\" width=\"2400\" height=\"460\" class=\"part header\"/>
@@ -61,20 +61,20 @@ opener 8 1 4
 </g>
 <rect x=\"200\" y=\"1460\" width=\"140\" height=\"140\" class=\"part header\"/>
 <text x=\"440\" y=\"1460\" dy=\"115\">header: offset 0, 16 bytes</text>
-<text x=\"440\" y=\"1660\" dy=\"110\" font-size=\"110\" font-family=\"monospace\">alignment 8, opener's 8, A&lt;B&gt;</text>
+<text x=\"440\" y=\"1660\" dy=\"110\" font-size=\"110\" font-family=\"monospace\" xml:space=\"preserve\">alignment 8, opener's 8, A&lt;B&gt;</text>
 <rect x=\"200\" y=\"1870\" width=\"140\" height=\"140\" class=\"part user-header\"/>
 <text x=\"440\" y=\"1870\" dy=\"115\">user header: offset 16, 4 bytes</text>
-<text x=\"440\" y=\"2070\" dy=\"110\" font-size=\"110\" font-family=\"monospace\">alignment 4, opener's 1, u32</text>
+<text x=\"440\" y=\"2070\" dy=\"110\" font-size=\"110\" font-family=\"monospace\" xml:space=\"preserve\">alignment 4, opener's 1, u32</text>
 <rect x=\"200\" y=\"2280\" width=\"140\" height=\"140\" class=\"part empty\"/>
 <text x=\"440\" y=\"2280\" dy=\"115\">padding: offset 20, 4 bytes</text>
 <rect x=\"200\" y=\"2520\" width=\"140\" height=\"140\" class=\"part payload\"/>
 <text x=\"440\" y=\"2520\" dy=\"115\">payload: offset 24, 16 bytes</text>
-<text x=\"440\" y=\"2720\" dy=\"110\" font-size=\"110\" font-family=\"monospace\">alignment 8, opener's 4, &amp;C</text>
+<text x=\"440\" y=\"2720\" dy=\"110\" font-size=\"110\" font-family=\"monospace\" xml:space=\"preserve\">alignment 8, opener's 4, &amp;C</text>
 <rect x=\"200\" y=\"2930\" width=\"140\" height=\"140\" class=\"part empty\"/>
 <text x=\"440\" y=\"2930\" dy=\"115\">padding: offset 40, 8 bytes</text>
-<text x=\"200\" y=\"3230\" dy=\"110\" font-size=\"110\" font-family=\"monospace\">2 elements of 8 bytes</text>
-<text x=\"200\" y=\"3400\" dy=\"110\" font-size=\"110\" font-family=\"monospace\">data segment of a publisher: 34 chunks of 48 bytes, 1632 bytes, of all 2 publishers: 3264 bytes</text>
-<text x=\"200\" y=\"3570\" dy=\"110\" font-size=\"110\" font-family=\"monospace\">the opener is compatible</text>
+<text x=\"200\" y=\"3230\" dy=\"110\" font-size=\"110\" font-family=\"monospace\" xml:space=\"preserve\">2 elements of 8 bytes</text>
+<text x=\"200\" y=\"3400\" dy=\"110\" font-size=\"110\" font-family=\"monospace\" xml:space=\"preserve\">data segment of a publisher: 34 chunks of 48 bytes, 1632 bytes, of all 2 publishers: 3264 bytes</text>
+<text x=\"200\" y=\"3570\" dy=\"110\" font-size=\"110\" font-family=\"monospace\" xml:space=\"preserve\">the opener is compatible</text>
 </svg>
 ",
 };
@@ -88,8 +88,8 @@ pub(crate) const WITHOUT_MESSAGES: Picture = Picture {
 <desc id=\"description\">No messages.</desc>
 ",
     end: "<rect class=\"page\" width=\"7600\" height=\"750\"/>
-<text x=\"200\" y=\"150\" dy=\"150\" font-size=\"150\" font-family=\"monospace\">A&amp;B (event)</text>
-<text x=\"200\" y=\"480\" dy=\"110\" font-size=\"110\" font-family=\"monospace\">no messages</text>
+<text x=\"200\" y=\"150\" dy=\"150\" font-size=\"150\" font-family=\"monospace\" xml:space=\"preserve\">A&amp;B (event)</text>
+<text x=\"200\" y=\"480\" dy=\"110\" font-size=\"110\" font-family=\"monospace\" xml:space=\"preserve\">no messages</text>
 </svg>
 ",
 };
@@ -104,9 +104,9 @@ key 12 4 [u32; 3]
 <desc id=\"description\">No messages, but values with keys of 12 bytes.</desc>
 ",
     end: "<rect class=\"page\" width=\"7600\" height=\"920\"/>
-<text x=\"200\" y=\"150\" dy=\"150\" font-size=\"150\" font-family=\"monospace\">Board (blackboard)</text>
-<text x=\"200\" y=\"480\" dy=\"110\" font-size=\"110\" font-family=\"monospace\">no messages, but values with keys of this type:</text>
-<text x=\"200\" y=\"650\" dy=\"110\" font-size=\"110\" font-family=\"monospace\">12 bytes, alignment 4, [u32; 3]</text>
+<text x=\"200\" y=\"150\" dy=\"150\" font-size=\"150\" font-family=\"monospace\" xml:space=\"preserve\">Board (blackboard)</text>
+<text x=\"200\" y=\"480\" dy=\"110\" font-size=\"110\" font-family=\"monospace\" xml:space=\"preserve\">no messages, but values with keys of this type:</text>
+<text x=\"200\" y=\"650\" dy=\"110\" font-size=\"110\" font-family=\"monospace\" xml:space=\"preserve\">12 bytes, alignment 4, [u32; 3]</text>
 </svg>
 ",
 };
@@ -127,7 +127,7 @@ response-payload fixed 8 1 [u8; 8]
 <desc id=\"description\">A request without a layout. A response of 16 bytes: a header of 8 bytes at offset 0, a user header of 0 bytes at offset 8, a payload of 1 element at offset 8.</desc>
 ",
     end: "<rect class=\"page\" width=\"7600\" height=\"3710\"/>
-<text x=\"200\" y=\"150\" dy=\"150\" font-size=\"150\" font-family=\"monospace\">Pair (request-response)</text>
+<text x=\"200\" y=\"150\" dy=\"150\" font-size=\"150\" font-family=\"monospace\" xml:space=\"preserve\">Pair (request-response)</text>
 <text x=\"200\" y=\"480\" dy=\"150\" font-size=\"150\">request: no layout, since it would pass 9223372036854775807 bytes</text>
 <text x=\"200\" y=\"840\" dy=\"150\" font-size=\"150\">response: 16 bytes, alignment 8</text>
 <g transform=\"translate(0 1080)\">
@@ -139,15 +139,15 @@ response-payload fixed 8 1 [u8; 8]
 </g>
 <rect x=\"200\" y=\"1820\" width=\"140\" height=\"140\" class=\"part header\"/>
 <text x=\"440\" y=\"1820\" dy=\"115\">header: offset 0, 8 bytes</text>
-<text x=\"440\" y=\"2020\" dy=\"110\" font-size=\"110\" font-family=\"monospace\">alignment 8, u64</text>
+<text x=\"440\" y=\"2020\" dy=\"110\" font-size=\"110\" font-family=\"monospace\" xml:space=\"preserve\">alignment 8, u64</text>
 <rect x=\"200\" y=\"2230\" width=\"140\" height=\"140\" class=\"part user-header\"/>
 <text x=\"440\" y=\"2230\" dy=\"115\">user header: offset 8, 0 bytes</text>
-<text x=\"440\" y=\"2430\" dy=\"110\" font-size=\"110\" font-family=\"monospace\">alignment 1, ()</text>
+<text x=\"440\" y=\"2430\" dy=\"110\" font-size=\"110\" font-family=\"monospace\" xml:space=\"preserve\">alignment 1, ()</text>
 <rect x=\"200\" y=\"2640\" width=\"140\" height=\"140\" class=\"part payload\"/>
 <text x=\"440\" y=\"2640\" dy=\"115\">payload: offset 8, 8 bytes</text>
-<text x=\"440\" y=\"2840\" dy=\"110\" font-size=\"110\" font-family=\"monospace\">alignment 1, [u8; 8]</text>
-<text x=\"200\" y=\"3110\" dy=\"110\" font-size=\"110\" font-family=\"monospace\">1 element of 8 bytes</text>
-<text x=\"200\" y=\"3280\" dy=\"110\" font-size=\"110\" font-family=\"monospace\">data segment of a server: 384 chunks of 16 bytes, 6144 bytes, of all 2 servers: 12288 bytes</text>
+<text x=\"440\" y=\"2840\" dy=\"110\" font-size=\"110\" font-family=\"monospace\" xml:space=\"preserve\">alignment 1, [u8; 8]</text>
+<text x=\"200\" y=\"3110\" dy=\"110\" font-size=\"110\" font-family=\"monospace\" xml:space=\"preserve\">1 element of 8 bytes</text>
+<text x=\"200\" y=\"3280\" dy=\"110\" font-size=\"110\" font-family=\"monospace\" xml:space=\"preserve\">data segment of a server: 384 chunks of 16 bytes, 6144 bytes, of all 2 servers: 12288 bytes</text>
 </svg>
 ",
 };
@@ -165,8 +165,8 @@ elements 18
 <desc id=\"description\">A message of 18 bytes: a header of 0 bytes at offset 0, a user header of 0 bytes at offset 0, a payload of 18 elements at offset 0.</desc>
 ",
     end: "<rect class=\"page\" width=\"7600\" height=\"3560\"/>
-<text x=\"200\" y=\"150\" dy=\"150\" font-size=\"150\" font-family=\"monospace\">NNNNNNNNNNNNNNNNNNNNNNNNNNNNNNNNNNNNNNNNNNNNNNNNNNNNNNNNNNNNNNNNNNNNNNNNNNNNNN</text>
-<text x=\"200\" y=\"360\" dy=\"150\" font-size=\"150\" font-family=\"monospace\"> (publish-subscribe)</text>
+<text x=\"200\" y=\"150\" dy=\"150\" font-size=\"150\" font-family=\"monospace\" xml:space=\"preserve\">NNNNNNNNNNNNNNNNNNNNNNNNNNNNNNNNNNNNNNNNNNNNNNNNNNNNNNNNNNNNNNNNNNNNNNNNNNNNNN</text>
+<text x=\"200\" y=\"360\" dy=\"150\" font-size=\"150\" font-family=\"monospace\" xml:space=\"preserve\"> (publish-subscribe)</text>
 <text x=\"200\" y=\"690\" dy=\"150\" font-size=\"150\">message: 18 bytes, alignment 1</text>
 <g transform=\"translate(0 930)\">
 <rect x=\"200\" y=\"0\" width=\"400\" height=\"460\" class=\"part payload\"/>
@@ -208,15 +208,15 @@ elements 18
 </g>
 <rect x=\"200\" y=\"1670\" width=\"140\" height=\"140\" class=\"part header\"/>
 <text x=\"440\" y=\"1670\" dy=\"115\">header: offset 0, 0 bytes</text>
-<text x=\"440\" y=\"1870\" dy=\"110\" font-size=\"110\" font-family=\"monospace\">alignment 1, ()</text>
+<text x=\"440\" y=\"1870\" dy=\"110\" font-size=\"110\" font-family=\"monospace\" xml:space=\"preserve\">alignment 1, ()</text>
 <rect x=\"200\" y=\"2080\" width=\"140\" height=\"140\" class=\"part user-header\"/>
 <text x=\"440\" y=\"2080\" dy=\"115\">user header: offset 0, 0 bytes</text>
-<text x=\"440\" y=\"2280\" dy=\"110\" font-size=\"110\" font-family=\"monospace\">alignment 1, ()</text>
+<text x=\"440\" y=\"2280\" dy=\"110\" font-size=\"110\" font-family=\"monospace\" xml:space=\"preserve\">alignment 1, ()</text>
 <rect x=\"200\" y=\"2490\" width=\"140\" height=\"140\" class=\"part payload\"/>
 <text x=\"440\" y=\"2490\" dy=\"115\">payload: offset 0, 18 bytes</text>
-<text x=\"440\" y=\"2690\" dy=\"110\" font-size=\"110\" font-family=\"monospace\">alignment 1, u8</text>
-<text x=\"200\" y=\"2960\" dy=\"110\" font-size=\"110\" font-family=\"monospace\">18 elements of 1 byte: 16 one by one, and 2 more</text>
-<text x=\"200\" y=\"3130\" dy=\"110\" font-size=\"110\" font-family=\"monospace\">data segment of a publisher: 34 chunks of 18 bytes, 612 bytes, of all 2 publishers: 1224 bytes</text>
+<text x=\"440\" y=\"2690\" dy=\"110\" font-size=\"110\" font-family=\"monospace\" xml:space=\"preserve\">alignment 1, u8</text>
+<text x=\"200\" y=\"2960\" dy=\"110\" font-size=\"110\" font-family=\"monospace\" xml:space=\"preserve\">18 elements of 1 byte: 16 one by one, and 2 more</text>
+<text x=\"200\" y=\"3130\" dy=\"110\" font-size=\"110\" font-family=\"monospace\" xml:space=\"preserve\">data segment of a publisher: 34 chunks of 18 bytes, 612 bytes, of all 2 publishers: 1224 bytes</text>
 </svg>
 ",
 };
@@ -234,7 +234,7 @@ elements 1000
 <desc id=\"description\">A message of 1008 bytes: a header of 8 bytes at offset 0, a user header of 0 bytes at offset 8, a payload of 1000 elements at offset 8.</desc>
 ",
     end: "<rect class=\"page\" width=\"7600\" height=\"3350\"/>
-<text x=\"200\" y=\"150\" dy=\"150\" font-size=\"150\" font-family=\"monospace\">Fine (publish-subscribe)</text>
+<text x=\"200\" y=\"150\" dy=\"150\" font-size=\"150\" font-family=\"monospace\" xml:space=\"preserve\">Fine (publish-subscribe)</text>
 <text x=\"200\" y=\"480\" dy=\"150\" font-size=\"150\">message: 1008 bytes, alignment 8</text>
 <g transform=\"translate(0 720)\">
 <rect x=\"200\" y=\"0\" width=\"57\" height=\"460\" class=\"part header\"/>
@@ -245,15 +245,15 @@ elements 1000
 </g>
 <rect x=\"200\" y=\"1460\" width=\"140\" height=\"140\" class=\"part header\"/>
 <text x=\"440\" y=\"1460\" dy=\"115\">header: offset 0, 8 bytes</text>
-<text x=\"440\" y=\"1660\" dy=\"110\" font-size=\"110\" font-family=\"monospace\">alignment 8, u64</text>
+<text x=\"440\" y=\"1660\" dy=\"110\" font-size=\"110\" font-family=\"monospace\" xml:space=\"preserve\">alignment 8, u64</text>
 <rect x=\"200\" y=\"1870\" width=\"140\" height=\"140\" class=\"part user-header\"/>
 <text x=\"440\" y=\"1870\" dy=\"115\">user header: offset 8, 0 bytes</text>
-<text x=\"440\" y=\"2070\" dy=\"110\" font-size=\"110\" font-family=\"monospace\">alignment 1, ()</text>
+<text x=\"440\" y=\"2070\" dy=\"110\" font-size=\"110\" font-family=\"monospace\" xml:space=\"preserve\">alignment 1, ()</text>
 <rect x=\"200\" y=\"2280\" width=\"140\" height=\"140\" class=\"part payload\"/>
 <text x=\"440\" y=\"2280\" dy=\"115\">payload: offset 8, 1000 bytes</text>
-<text x=\"440\" y=\"2480\" dy=\"110\" font-size=\"110\" font-family=\"monospace\">alignment 1, u8</text>
-<text x=\"200\" y=\"2750\" dy=\"110\" font-size=\"110\" font-family=\"monospace\">1000 elements of 1 byte</text>
-<text x=\"200\" y=\"2920\" dy=\"110\" font-size=\"110\" font-family=\"monospace\">data segment of a publisher: 34 chunks of 1008 bytes, 34272 bytes, of all 2 publishers: 68544 bytes</text>
+<text x=\"440\" y=\"2480\" dy=\"110\" font-size=\"110\" font-family=\"monospace\" xml:space=\"preserve\">alignment 1, u8</text>
+<text x=\"200\" y=\"2750\" dy=\"110\" font-size=\"110\" font-family=\"monospace\" xml:space=\"preserve\">1000 elements of 1 byte</text>
+<text x=\"200\" y=\"2920\" dy=\"110\" font-size=\"110\" font-family=\"monospace\" xml:space=\"preserve\">data segment of a publisher: 34 chunks of 1008 bytes, 34272 bytes, of all 2 publishers: 68544 bytes</text>
 </svg>
 ",
 };
