@@ -6,7 +6,7 @@ ghost use Rattle.service_drawing.specs.Layout.{IsWhole};
 
 use crate::description::{Description, Exchange, Message, Segment, segments};
 use crate::layout::{MessageLayout, Part};
-use crate::sentences::{Row, opener_sentence, rows, write_memory};
+use crate::sentences::{Counted, Row, opener_sentence, rows, write_memory};
 use crate::settings::row;
 use arrayvec::ArrayVec;
 use iox2_config::config::Config;
@@ -134,9 +134,9 @@ fn write_exchange(out: &mut String, service: &Description) -> Result<(), AllocEr
         Exchange::Event => writeln!(out, "\nno messages"),
         Exchange::Blackboard(key) => writeln!(
             out,
-            "\nno messages, but values whose keys are of the type {}, {} bytes, alignment {}",
+            "\nno messages, but values whose keys are of the type {}, {}, alignment {}",
             key.type_name(),
-            key.size(),
+            Counted(key.size(), "byte"),
             key.alignment()
         ),
         _ => Ok(()),
@@ -182,9 +182,9 @@ pub(super) fn write_message(out: &mut String, segment: Segment<'_>) -> Result<()
             "\n{title}: no layout, since it would pass 9223372036854775807 bytes"
         );
     };
-    let size = layout.size;
+    let size = Counted(layout.size, "byte");
     let alignment = message.details.header.alignment();
-    writeln!(out, "\n{title}: {size} bytes, alignment {alignment}\n")?;
+    writeln!(out, "\n{title}: {size}, alignment {alignment}\n")?;
     write_bar(out, &layout)?;
     write_table(out, message, &layout)?;
     if let Some(sentence) = opener_sentence(message) {

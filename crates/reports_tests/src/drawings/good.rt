@@ -59,9 +59,20 @@ fn longest_texts(rt: HostRuntime) -> Result<(), Fail> {
     Ok(())
 }
 
-/// Lines of 128 bytes, and the greatest numbers and alignments.
-const GOOD: [(&str, &str); 13] = [
+/// Spaces at both ends of a name and side by side in it, lines of 128 bytes, and the least and the
+/// greatest numbers and alignments.
+const GOOD: [(&str, &str); 17] = [
     ("event ~\n", "service    ~"),
+    ("event  a  b \n", "service     a  b "),
+    ("event A\nattribute k  v  w\n", "  k =  v  w"),
+    (
+        "blackboard A\nkey 1 1  a  b\n",
+        "no messages, but values whose keys are of the type  a  b, 1 byte, alignment 1",
+    ),
+    (
+        "publish-subscribe A\nheader 0 1 ()\nuser-header 0 1 ()\npayload fixed 1 1 u8\n",
+        "message: 1 byte, alignment 1",
+    ),
     (
         "event 45678901234567890123456789012345678901234567890123456789012345678901234567890123456789012345678901234567890123456789~ 4567\n",
         "service    45678901234567890123456789012345678901234567890123456789012345678901234567890123456789012345678901234567890123456789~ 4567",
