@@ -4,4 +4,5 @@ mod Descriptions
 mod Forms
 mod Inside
 mod SettingLines
+mod Spaces
 mod Words

@@ -1,5 +1,5 @@
 -- What a whole description is, what stands in front of it, and why a line is bad.
-use Rattle.std.specs.Prelude.{◌≡◌, ◌≢◌, ◌⊎◌, ℕ, List, [], ◌++◌, codes, drop, take, string_bytes, ◌==◌, ◌+◌, ◌<◌, ◌∷◌, not, Some, None, IsTrue, length, nat_eq, slice_index, map}
+use Rattle.std.specs.Prelude.{◌≡◌, ◌≢◌, ◌⊎◌, ℕ, List, [], ◌++◌, codes, drop, take, string_bytes, ◌==◌, ◌+◌, ◌<◌, ◌∷◌, not, Some, None, IsTrue, length, nat_eq, slice_index, map, Bool, cond, count_by, ◌||◌}
 use Rattle.iox2_config.specs.Defaults.{IsDefaultConfig}
 use Rattle.iox2_config.specs.declared.config.Config.{Config}
 use Rattle.memchr.specs.Find.{FindsNeedle}
@@ -39,7 +39,7 @@ pub record HasBlock (settings rest bytes : List ℕ) : Type 0 where
   pub left : rest ≡ drop (at + 5) (behind_config bytes)
 
 -- what is left of the bytes is a description over this configuration: that of the block in front,
--- whose unknown keys are reported, or without a block the default one
+-- with the warnings on it, or without a block the default one
 abbrev pub IsOver : Config → List ℕ → List ℕ → List ℕ → Type 0
 IsOver base warnings rest bytes =
     ((¬ Opens bytes) × (rest ≡ bytes) × IsDefaultConfig base × (warnings ≡ []))
@@ -94,10 +94,27 @@ line_of bytes = before_first (λ b. b == 10) bytes
 abbrev pub EndsInReturn : List ℕ → Type 0
 EndsInReturn line = IsTrue (ends_with nat_eq line (13 ∷ []))
 
--- one space follows another
-abbrev pub HasTwoSpaces : List ℕ → Type 0
-HasTwoSpaces line =
-    (i : ℕ) × (i + 1 < length line) × (slice_index line i ≡ 32) × (slice_index line (i + 1) ≡ 32)
+-- the word ends so
+abbrev pub ends_so : List ℕ → List ℕ → Bool
+ends_so word end = ends_with nat_eq word end
+
+-- how many words follow this one, with which a line begins: a name or a value that may have
+-- spaces, and begin with them, is none
+abbrev pub words_behind : List ℕ → ℕ
+words_behind word =
+    cond (ends_so word (codes "payload") || ends_so word (codes "opener")) 3
+    (cond (ends_so word (codes "require") || ends_so word (codes "require-key")
+    || (ends_so word (codes "attribute") || ends_so word (codes "elements"))) 1
+    (cond (ends_so word (codes "header") || ends_so word (codes "key")
+    || ends_so word (codes "set")) 2 0))
+
+-- one space follows another, and fewer stand before them than words follow the first one
+pub record HasTwoSpaces (line : List ℕ) : Type 0 where
+  pub at : ℕ
+  pub within : at + 1 < length line
+  pub first : slice_index line at ≡ 32
+  pub second : slice_index line (at + 1) ≡ 32
+  pub among : count_by (λ b. b == 32) (take at line) < words_behind (word_of line)
 
 -- a newline ends the first line
 abbrev pub IsEnded : List ℕ → Type 0

@@ -1,5 +1,5 @@
 -- What the program's arguments ask for, and what its streams get.
-use Rattle.std.specs.Prelude.{◌≡◌, ◌≢◌, ◌⊎◌, List, [], ◌∷◌, ℕ, codes, map, drop, Result, Ok, Err, String, string_bytes, ◌+◌, ◌++◌, ◌==◌, count_by, Option, IfSome}
+use Rattle.std.specs.Prelude.{◌≡◌, ◌≢◌, ◌⊎◌, List, [], ◌∷◌, ℕ, codes, map, drop, Result, Ok, Err, String, string_bytes, ◌+◌, ◌++◌, ◌==◌, count_by, cond, Option, IfSome}
 use Rattle.std.specs.IoError.{error_kind}
 use Rattle.std.specs.Vec.Iter.{into_iter_items}
 use Rattle.std.specs.declared.alloc.Global.{Global}
@@ -99,6 +99,10 @@ fault_text (BadSettings lines) = string_bytes lines
 fault_text NoEnd = codes "bad settings: no line end follows the line config\n"
 fault_text NoMemory = codes "no memory" ++ 10 ∷ []
 
+-- what the line of this number may begin with: the first one may also begin a block of settings
+abbrev pub prefix_at : ℕ → List ℕ → List ℕ
+prefix_at line prefix = cond (line == 1) (codes "config, or ") prefix
+
 -- the fault of the line with which what is left begins: a report of its number, the cause, and what
 -- was expected
 abbrev pub ReportsBadLine : List ℕ → Expected → Fault → Type 0
@@ -107,7 +111,8 @@ ReportsBadLine bytes expected (BadLine report) =
     × ((read : List ℕ) → bytes ≡ read ++ expected.rest.now
     → line ≡ count_by (λ b. b == 10) read + 1)
     × IsCause expected.rest.now expected.reason cause
-    × (string_bytes report ≡ bad_line_text line cause expected.prefix.now expected.form.now)
+    × (string_bytes report ≡ bad_line_text line cause (prefix_at line expected.prefix.now)
+    expected.form.now)
 ReportsBadLine bytes expected NoMemory = Unit {0}
 ReportsBadLine bytes expected other = ⊥
 

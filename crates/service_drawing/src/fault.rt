@@ -68,7 +68,12 @@ pub(crate) fn bad_line(alloc: Global, bytes: &[u8], expected: Expected<'_>) -> F
 {
     let line = line_number(bytes, expected.rest);
     let cause = cause_of(expected.rest, expected.reason);
-    let prefix = expected.prefix;
+    // A block of settings may stand in front too.
+    let prefix = if line == 1 {
+        "config, or "
+    } else {
+        expected.prefix
+    };
     let form = expected.form;
     match format!(in alloc; "bad line {line}{cause}expected {prefix}{form}\n") {
         Ok(report) => Fault::BadLine(report),

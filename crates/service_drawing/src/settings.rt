@@ -56,6 +56,18 @@ impl fmt::Display for Value {
 }
 
 impl Value {
+    /// All values of the same kind, in words.
+    fn all(self) -> &'static str {
+        match self {
+            Value::Number(_) => "a number",
+            Value::Switch(_) => "true or false",
+            Value::Perhaps(_) => "none or a number",
+            Value::Deadline(_) => "none or a number of nanoseconds",
+            Value::Backpressure(_) => "RetryUntilDelivered or DiscardData",
+            Value::Allocation(_) => "BestFit, PowerOfTwo or Static",
+        }
+    }
+
     /// The value of the same kind that the text has.
     fn of_kind(self, text: &[u8]) -> Option<Value>
         ensures { MatchOption result
@@ -278,15 +290,31 @@ fn set(
     }
 }
 
+/// The values that the setting may have that the text names.
+fn values_of(defaults: &Defaults, kind: PatternKind, text: &[u8]) -> &'static str {
+    if let Some((word, _)) = before_byte(text, b' ')
+        && let Some((_, value)) = find(defaults, kind, word)
+    {
+        return value.all();
+    }
+    "a value that the setting may have"
+}
+
 /// What was expected instead of a line that sets nothing.
-fn expected(kind: PatternKind, bytes: &[u8], reason: Reason) -> Expected<'_>
+fn expected<'a>(
+    defaults: &Defaults,
+    kind: PatternKind,
+    text: &[u8],
+    bytes: &'a [u8],
+    reason: Reason,
+) -> Expected<'a>
     ensures rest { result.rest.now ≡ bytes.now }
     ensures reason { result.reason ≡ reason }
 {
     let (prefix, form) = match reason {
         Reason::UnknownSetting => ("set NAME VALUE with one of the names ", all_names(kind)),
         Reason::SetTwice => ("each setting once", ""),
-        _ => ("set NAME VALUE with a value that the setting may have", ""),
+        _ => ("set NAME VALUE with ", values_of(defaults, kind, text)),
     };
     Expected {
         rest: bytes,
@@ -313,7 +341,7 @@ pub(crate) fn settings_before<'a>(
     while let Some((text, tail)) = line_after(rest, "", "set ") {
         match set(&mut config.defaults, kind, &mut given, text) {
             Ok(()) => rest = tail,
-            Err(reason) => return Err(expected(kind, rest, reason)),
+            Err(reason) => return Err(expected(&config.defaults, kind, text, rest, reason)),
         }
     }
     Ok(rest)

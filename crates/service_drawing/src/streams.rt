@@ -112,7 +112,7 @@ const END: usize = 5;
 struct Over<'a> {
     /// That of the block in front, or without a block the default one.
     base: Config,
-    /// A line for each key of the block that no setting has.
+    /// A line for each warning on the settings of the block.
     warnings: String,
     /// What follows the block.
     rest: &'a [u8],

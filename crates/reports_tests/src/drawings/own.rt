@@ -24,7 +24,8 @@ fn assert_drawn(rt: &impl Abort, alloc: Global, input: &str, warnings: &str) {
     );
 }
 
-/// Other forms of such settings, and keys that none has, which are reported beside the drawing.
+/// Other forms of such settings, and keys that none has and contradictions, which are reported
+/// beside the drawing.
 #[test]
 fn own_settings_have_any_form(rt: HostRuntime) {
     for (input, warnings) in FILES {

@@ -10,9 +10,11 @@ const GOOD: &str =
     "publish-subscribe A\nheader 8 8 u64\nuser-header 0 1 ()\npayload fixed 4 4 u32\n";
 
 const SERVICE: &str =
-    "PATTERN NAME: publish-subscribe, event, request-response or blackboard, and the name of a service, 1 to 255 bytes";
+    "config, or PATTERN NAME: publish-subscribe, event, request-response or blackboard, and the name of a service, 1 to 255 bytes";
 
 const SETTING: &str = "set NAME VALUE with a value that the setting may have";
+
+const NUMBER: &str = "set NAME VALUE with a number";
 
 const HEADER: &str =
     "header SIZE ALIGNMENT NAME: two numbers, the second a power of two, and 1 to 256 bytes";
@@ -57,10 +59,9 @@ fn bad_lines(rt: HostRuntime) -> Result<(), Fail> {
         ("", "", 1, SERVICE),
         ("", "publish-subscribe \n", 1, SERVICE),
         ("", "Event A\n", 1, SERVICE),
-        ("event A\n", "set max_nodes 036\n", 2, SETTING),
-        ("event A\n", "set max_nodes \n", 2, SETTING),
+        ("event A\n", "set max_nodes 036\n", 2, NUMBER),
+        ("event A\n", "set max-nodes \n", 2, NUMBER),
         ("event A\n", "set max_nodes\n", 2, SETTING),
-        ("event A\n", "set deadline true\n", 2, SETTING),
         ("event A\n", "header 8 8 u64\n", 2, END),
         ("publish-subscribe A\n", "", 2, HEADER),
         ("publish-subscribe A\n", "header 8 3 u64\n", 2, HEADER),
@@ -98,6 +99,97 @@ fn bad_lines(rt: HostRuntime) -> Result<(), Fail> {
     ] {
         let input = format!(in rt.alloc(); "{begin}{rest}")?;
         assert_bad_line(&rt, rt.alloc(), input.as_str(), line, expected)?;
+    }
+    Ok(())
+}
+
+/// A value that a setting may not have: the values that it may have are reported.
+#[test]
+fn bad_values(rt: HostRuntime) -> Result<(), Fail> {
+    for (pattern, setting, values) in [
+        ("event", "deadline true", "none or a number of nanoseconds"),
+        ("event", "notifier_dead_event -1", "none or a number"),
+        (
+            "publish-subscribe",
+            "enable_safe_overflow 1",
+            "true or false",
+        ),
+        (
+            "publish-subscribe",
+            "backpressure-strategy discarddata",
+            "RetryUntilDelivered or DiscardData",
+        ),
+        (
+            "request-response",
+            "client_allocation_strategy Best",
+            "BestFit, PowerOfTwo or Static",
+        ),
+    ] {
+        let alloc = rt.alloc();
+        let input = format!(in alloc; "{pattern} A\nset {setting}\n")?;
+        let expected = format!(in alloc; "set NAME VALUE with {values}")?;
+        assert_bad_line(&rt, alloc, input.as_str(), 2, expected.as_str())?;
+    }
+    Ok(())
+}
+
+/// Two spaces in a name or a value are not why a line is bad, and two between words are.
+#[test]
+fn two_spaces(rt: HostRuntime) -> Result<(), Fail> {
+    let alloc = rt.alloc();
+    let two = "two spaces stand where one separates words; ";
+    for (begin, line, number, cause, expected) in [
+        ("", "Event  A", 1, "", SERVICE),
+        ("publish-subscribe A\n", "header 32 3 a  b", 2, "", HEADER),
+        ("publish-subscribe A\n", "header 32 3  a", 2, "", HEADER),
+        ("publish-subscribe A\n", "header 32  4 a", 2, two, HEADER),
+        ("publish-subscribe A\n", "header  32 4 a", 2, two, HEADER),
+        (
+            "publish-subscribe A\nheader 8 8 u64\n",
+            "user-header 0 3 a  b",
+            3,
+            "",
+            USER_HEADER,
+        ),
+        (
+            "publish-subscribe A\nheader 8 8 u64\nuser-header 0 1 ()\n",
+            "payload fixed 4 3 a  b",
+            4,
+            "",
+            PAYLOAD,
+        ),
+        (
+            "publish-subscribe A\nheader 8 8 u64\nuser-header 0 1 ()\n",
+            "payload fixed 4  4 a",
+            4,
+            two,
+            PAYLOAD,
+        ),
+        ("blackboard A\n", "key 8 3 a  b", 2, "", KEY),
+        ("blackboard A\n", "key 8  8 a", 2, two, KEY),
+        (GOOD, "opener 8 1  4", 5, two, OPENER),
+        (
+            GOOD,
+            "attribute 01234567890123456789012345678901234567890123456789012345678901234 a  b",
+            5,
+            "",
+            ATTRIBUTE,
+        ),
+        (GOOD, "attribute  a b", 5, two, ATTRIBUTE),
+        (GOOD, "require  a b", 5, two, REQUIRE),
+        (GOOD, "require-key  a", 5, two, REQUIRE),
+        (GOOD, "require-key a  b", 5, "", REQUIRE),
+        (
+            "request-response A\nrequest-header 8 8 u64\nrequest-user-header 0 1 ()\nrequest-payload dynamic 4 4 u32\n",
+            "request-elements  4",
+            5,
+            two,
+            "request-elements NUMBER",
+        ),
+    ] {
+        let input = format!(in alloc; "{begin}{line}\n")?;
+        let expected = format!(in alloc; "bad line {number}: {cause}expected {expected}\n")?;
+        assert_run(&rt, alloc, &[], input.as_str(), (1, "", expected.as_str()));
     }
     Ok(())
 }
@@ -148,7 +240,7 @@ fn bad_arguments(rt: HostRuntime) {
 const CAUSES: [(&str, &str); 14] = [
     (
         "event A",
-        "1: no newline ends it; expected PATTERN NAME: publish-subscribe, event, request-response or blackboard, and the name of a service, 1 to 255 bytes",
+        "1: no newline ends it; expected config, or PATTERN NAME: publish-subscribe, event, request-response or blackboard, and the name of a service, 1 to 255 bytes",
     ),
     (
         "event A\nset max_nodes 4",
@@ -176,11 +268,11 @@ const CAUSES: [(&str, &str); 14] = [
     ),
     (
         "event iox2://A  B\n",
-        "1: names that begin with iox2:// are those of internal services; expected PATTERN NAME: publish-subscribe, event, request-response or blackboard, and the name of a service, 1 to 255 bytes",
+        "1: names that begin with iox2:// are those of internal services; expected config, or PATTERN NAME: publish-subscribe, event, request-response or blackboard, and the name of a service, 1 to 255 bytes",
     ),
     (
         "event A\nset max_nodes  4\n",
-        "2: two spaces stand where one separates words; expected set NAME VALUE with a value that the setting may have",
+        "2: two spaces stand where one separates words; expected set NAME VALUE with a number",
     ),
     (
         "blackboard A\nkey  4 4 u32\n",

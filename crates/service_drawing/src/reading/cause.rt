@@ -1,9 +1,11 @@
 //! Why a line is bad, and what was expected there.
-ghost use Rattle.std.specs.Prelude.{◌≡◌, ◌==◌, ◌↔◌, ◌≤◌, length, not, IsTrue, MatchOption};
+ghost use Rattle.std.specs.Prelude.{◌≡◌, ◌==◌, ◌↔◌, ◌≤◌, ◌<◌, ◌+◌, ℕ, length, not};
+ghost use Rattle.std.specs.Prelude.{IfSome, IsTrue, MatchOption, count_by, slice_index};
 ghost use Rattle.std.specs.List.{find};
 ghost use Rattle.service_drawing.specs.Lines.{is_plain};
 ghost use Rattle.service_drawing.specs.Descriptions.{line_of, HasTwoSpaces, IsMisspelled};
-ghost use Rattle.service_drawing.specs.Descriptions.{IsSpelled, IsCause};
+ghost use Rattle.service_drawing.specs.Descriptions.{IsSpelled, IsCause, words_behind};
+ghost use Rattle.service_drawing.specs.Settings.{word_of};
 
 use line_streams::before_byte;
 
@@ -29,7 +31,7 @@ pub(crate) enum Cause {
     CarriageReturn,
     /// It holds this byte, which is not from 32 to 126.
     ForeignByte(u8),
-    /// One space follows another.
+    /// One space follows another where one separates words.
     TwoSpaces,
     /// It is a line, but another one was expected.
     Read(Reason),
@@ -54,11 +56,65 @@ fn foreign_byte(line: &[u8]) -> Option<u8>
     line.iter().copied().find(|b| !(b' ' <= *b && *b <= b'~'))
 }
 
-/// Whether one space follows another.
+/// What stands before the first space.
+fn first_word(line: &[u8]) -> &[u8]
+    ensures { result.now ≡ word_of line.now }
+{
+    match before_byte(line, b' ') {
+        Some((word, _)) => word,
+        None => line,
+    }
+}
+
+/// How many words follow this one, with which a line begins: a name or a value that may have
+/// spaces, and begin with them, is none.
+fn words_behind(word: &[u8]) -> usize
+    ensures { result ≡ words_behind word.now }
+{
+    if word.ends_with(b"payload") || word.ends_with(b"opener") {
+        return 3;
+    }
+    if word.ends_with(b"require")
+        || word.ends_with(b"require-key")
+        || (word.ends_with(b"attribute") || word.ends_with(b"elements"))
+    {
+        return 1;
+    }
+    if word.ends_with(b"header") || word.ends_with(b"key") || word.ends_with(b"set") {
+        return 2;
+    }
+    0
+}
+
+/// Where one space follows another for the first time.
+fn two_spaces(line: &[u8]) -> Option<usize>
+    ensures first { MatchOption result
+        ((i : ℕ) → i + 1 < length line.now → slice_index line.now i ≡ 32
+        → ¬ (slice_index line.now (i + 1) ≡ 32))
+        (λ at. (i : ℕ) → i + 1 < length line.now → slice_index line.now i ≡ 32
+        → slice_index line.now (i + 1) ≡ 32 → at ≤ i) }
+    ensures there { IfSome result (λ at. (at + 1 < length line.now)
+        × (slice_index line.now at ≡ 32) × (slice_index line.now (at + 1) ≡ 32)) }
+{
+    line.windows(2)
+        .position(|pair| matches!(pair, [b' ', b' ']))
+}
+
+/// How many spaces the text has.
+fn spaces(text: &[u8]) -> usize
+    ensures { result ≡ count_by (λ b. b == 32) text.now }
+{
+    text.iter().filter(|b| **b == b' ').count()
+}
+
+/// Whether one space follows another where one separates words.
 fn has_two_spaces(line: &[u8]) -> bool
     ensures { IsTrue result ↔ HasTwoSpaces line.now }
 {
-    line.windows(2).any(|pair| matches!(pair, [b' ', b' ']))
+    match two_spaces(line) {
+        Some(at) => spaces(&line[..at]) < words_behind(first_word(line)),
+        None => false,
+    }
 }
 
 /// Why what is left does not begin with a line, whatever that should say.

@@ -38,8 +38,9 @@ required by an opener
 ",
 );
 
-/// An empty file of settings, one with CRLF, and one with a key that no setting has.
-pub(crate) const FILES: [(&str, &str); 3] = [
+/// An empty file of settings, one with CRLF, one with a key that no setting has, and one with a
+/// contradiction.
+pub(crate) const FILES: [(&str, &str); 4] = [
     (
         "config\nend\nevent My/Event\nset max_listeners 3\nset max_nodes 5\n",
         "",
@@ -52,11 +53,16 @@ pub(crate) const FILES: [(&str, &str); 3] = [
         "config\n[defaults.event]\nmax-nodes = 5\nmax-listener = 4\nend\nevent My/Event\nset max_listeners 3\n",
         "4:1: warning: defaults.event.max-listener: this table has no such key, defaults.event.max-listeners may be meant\n",
     ),
+    (
+        "config\n[defaults.event]\nmax-nodes = 5\nnotifier-created-event = 300\nend\nevent A\n",
+        "4:1: warning: defaults.event.notifier-created-event: is 300, and defaults.event.event-id-max-value is 255: an event above the greatest one is never sent\n",
+    ),
 ];
 
 /// Inputs that are refused, and why: no `end` or one of another form, settings that are not
-/// allowed, a bad line behind the settings, a second block, and a line that begins none.
-pub(crate) const REFUSED: [(&str, &str); 8] = [
+/// allowed, a bad line behind the settings, a byte-order mark, a second block, and a line that
+/// begins none.
+pub(crate) const REFUSED: [(&str, &str); 10] = [
     (
         "config\n",
         "bad settings: no line end follows the line config\n",
@@ -80,16 +86,24 @@ pub(crate) const REFUSED: [(&str, &str); 8] = [
         "bad line 5: the pattern has no such setting; expected set NAME VALUE with one of the names max_listeners, max_notifiers, max_nodes, event_id_max_value, deadline, notifier_created_event, notifier_dropped_event, notifier_dead_event\n",
     ),
     (
+        "config\n\u{feff}[defaults.event]\nmax-nodes = 5\nend\nevent A\n",
+        "2:1: error: invalid key, expected letters, numbers, `-`, `_` or a quoted key\n",
+    ),
+    (
         "config\nend\nconfig\nend\nevent A\n",
         "bad line 3: expected PATTERN NAME: publish-subscribe, event, request-response or blackboard, and the name of a service, 1 to 255 bytes\n",
     ),
     (
         "config",
-        "bad line 1: no newline ends it; expected PATTERN NAME: publish-subscribe, event, request-response or blackboard, and the name of a service, 1 to 255 bytes\n",
+        "bad line 1: no newline ends it; expected config, or PATTERN NAME: publish-subscribe, event, request-response or blackboard, and the name of a service, 1 to 255 bytes\n",
+    ),
+    (
+        "config\r\n",
+        "bad line 1: it ends in a carriage return and a newline, and not in a newline alone; expected config, or PATTERN NAME: publish-subscribe, event, request-response or blackboard, and the name of a service, 1 to 255 bytes\n",
     ),
     (
         "config \nend\nevent A\n",
-        "bad line 1: expected PATTERN NAME: publish-subscribe, event, request-response or blackboard, and the name of a service, 1 to 255 bytes\n",
+        "bad line 1: expected config, or PATTERN NAME: publish-subscribe, event, request-response or blackboard, and the name of a service, 1 to 255 bytes\n",
     ),
 ];
 
