@@ -36,12 +36,12 @@ const REFUSED: Row = Row {
     parts: &[
         "<title>line 15: no order of the calls explains this reply</title>",
         "<tspan x=\"12\" dy=\"64\">B</tspan>\n<tspan x=\"12\" dy=\"64\">A</tspan>\n</text>",
-        "x=\"130\" y=\"62\" dx=\"5\">9</text>",
-        "x=\"720\" y=\"62\" dx=\"5\">15</text>",
-        "<g class=\"refused\">\n<title>add listener 1.0.0.12 1.0.0.1: handle 1 1</title>\n<path class=\"bar\" d=\"M834 76H134v44H834\"/>\n<path class=\"end\" d=\"M834 76v44\"/>",
+        "x=\"144\" y=\"62\" dx=\"5\">9</text>",
+        "x=\"734\" y=\"62\" dx=\"5\">15</text>",
+        "<g class=\"refused\">\n<title>add listener 1.0.0.12 1.0.0.1: handle 1 1</title>\n<path class=\"bar\" d=\"M848 76H148v44H848\"/>\n<path class=\"end\" d=\"M848 76v44\"/>",
         ">add listener 1.0.0.12 1.0.0.1</text>\n<text class=\"reply\" x=\"7\" y=\"36\">handle 1 1</text>",
-        "</title>\n<path class=\"bar\" d=\"M480 140H252v44H480\"/>",
-        "</title>\n<path class=\"bar\" d=\"M716 140H488v44H716\"/>",
+        "</title>\n<path class=\"bar\" d=\"M494 140H266v44H494\"/>",
+        "</title>\n<path class=\"bar\" d=\"M730 140H502v44H730\"/>",
         ">possible: handle 1 2</tspan>",
     ],
 };
@@ -55,20 +55,20 @@ const WHOLE: Row = Row {
         "<title>conforms, 6 calls on 1 service</title>",
         "<tspan x=\"12\" dy=\"64\">(alone)</tspan>\n<tspan x=\"12\" dy=\"64\">A</tspan>\n<tspan x=\"12\" dy=\"64\">B</tspan>\n<tspan x=\"12\" dy=\"64\">C</tspan>\n</text>",
         // Alone, in the line of its reply: the first column.
-        "<path class=\"bar\" d=\"M244 76H134v44H244\"/>\n<path class=\"end\" d=\"M244 76v44\"/>\n<svg x=\"134\" y=\"76\" width=\"110\" height=\"44\">\n<text x=\"7\" y=\"18\">register 1.0.0.1</text>",
+        "<path class=\"bar\" d=\"M258 76H148v44H258\"/>\n<path class=\"end\" d=\"M258 76v44\"/>\n<svg x=\"148\" y=\"76\" width=\"110\" height=\"44\">\n<text x=\"7\" y=\"18\">register 1.0.0.1</text>",
         // From line 4 to line 7: the second to the fifth column.
-        "<path class=\"bar\" d=\"M716 140H252v44H716\"/>",
+        "<path class=\"bar\" d=\"M730 140H266v44H730\"/>",
         // From line 8 to line 11, where its caller died: the sixth to the ninth column.
-        "<path class=\"bar\" d=\"M1188 204H724v44H1188\"/>\n<path class=\"cross\" d=\"M1188 204m-8 14l16 16m0 -16l-16 16\"/>",
+        "<path class=\"bar\" d=\"M1202 204H738v44H1202\"/>\n<path class=\"cross\" d=\"M1202 204m-8 14l16 16m0 -16l-16 16\"/>",
         ">died</text>",
         // Open in line 12, the last of ten columns, up to the right border.
-        "<path class=\"bar\" d=\"M1310 268H1196v44H1310\"/>\n<svg x=\"1196\"",
+        "<path class=\"bar\" d=\"M1324 268H1210v44H1324\"/>\n<svg x=\"1210\"",
         ">open</text>",
         "<g class=\"call\">\n<title>register 1.0.0.1: handle 0 0</title>\n",
         // The listener with ticket 0 came first: in line 5, before that of line 4.
-        "<circle class=\"point\" cx=\"189\" cy=\"129\" r=\"9\"/><text class=\"number\" x=\"189\" y=\"129\" dy=\"4\">1</text>",
-        "<circle class=\"point\" cx=\"425\" cy=\"257\" r=\"9\"/><text class=\"number\" x=\"425\" y=\"257\" dy=\"4\">2</text>",
-        "<circle class=\"point\" cx=\"444\" cy=\"193\" r=\"9\"/><text class=\"number\" x=\"444\" y=\"193\" dy=\"4\">3</text>",
+        "<circle class=\"point\" cx=\"203\" cy=\"129\" r=\"9\"/><text class=\"number\" x=\"203\" y=\"129\" dy=\"4\">1</text>",
+        "<circle class=\"point\" cx=\"439\" cy=\"257\" r=\"9\"/><text class=\"number\" x=\"439\" y=\"257\" dy=\"4\">2</text>",
+        "<circle class=\"point\" cx=\"458\" cy=\"193\" r=\"9\"/><text class=\"number\" x=\"458\" y=\"193\" dy=\"4\">3</text>",
     ],
 };
 
@@ -153,7 +153,7 @@ fn log_of(rt: &impl AllocGlobal, calls: usize) -> Result<String, Fail> {
 #[test]
 fn as_many_calls_as_fit(rt: HostRuntime) -> Result<(), Fail> {
     let log = log_of(&rt, 200)?;
-    let last = ["x=\"23612\" y=\"62\" dx=\"5\">401</text>"];
+    let last = ["x=\"23626\" y=\"62\" dx=\"5\">401</text>"];
     is_drawn(&rt, log.as_str(), (0, ""), &last)?;
     let log = log_of(&rt, 201)?;
     let report = "no picture: there are more than 200 calls\n";

@@ -7,7 +7,7 @@ use Rattle.std.proofs.lemmas.List.Elements.{All-contains, All-push, Contains-app
 use Rattle.std.proofs.lemmas.List.Quantifiers.{all_pairs_push}
 use Rattle.history_drawing.specs.Calls.{text_at}
 use Rattle.history_drawing.specs.Coordinates.{IsDrawable}
-use Rattle.history_drawing.specs.Timelines.{AreApart, AreBars, Extends, IsBar, IsBarOf, IsPoint, IsRow, IsWanted}
+use Rattle.history_drawing.specs.Timelines.{AreApart, AreBars, Extends, HasBar, HasEarlier, IsBar, IsBarOf, IsPoint, IsRow, IsWanted}
 use Rattle.history_drawing.specs.declared.calls.LogCall.{LogCall}
 use Rattle.history_drawing.specs.declared.timeline.Bar.{Bar}
 use Rattle.history_drawing.specs.declared.timeline.Timeline.{Timeline}
@@ -37,20 +37,20 @@ row_last [] name = refl
 row_last (other ∷ rows) name = row_last rows name
 
 -- a row stays
-pub row_kept : (old new : List (Bor (List ℕ))) (row : ℕ) (caller : List ℕ) → Extends old new
-    → IsRow old row caller → IsRow new row caller
-row_kept old new row caller x is =
+pub row_kept : (old new : List (Bor (List ℕ))) (row last : ℕ) (caller : List ℕ)
+    → Extends old new last → IsRow old row caller → IsRow new row caller
+row_kept old new row last caller x is =
     let size : length (old ++ x.0) ≡ length old + length x.0 = length-append old x.0 in
     subst (λ (rows : List (Bor (List ℕ))). IsRow rows row caller) (sym x.1)
     (omega (arith, is.0, size), row_text old x.0 row is.0 ∙ is.1)
 
 pub bar_kept : (lines : List (Bor (List ℕ))) (w : Window) (old new : List (Bor (List ℕ)))
-    (b : Bar) → Extends old new → IsBar lines w old b → IsBar lines w new b
-bar_kept lines w old new b x (seen, wanted, is) = (
+    (b : Bar) (last : ℕ) → Extends old new last → IsBar lines w old b → IsBar lines w new b
+bar_kept lines w old new b last x (seen, wanted, is) = (
   seen,
   wanted,
   record {
-    row = row_kept old new b.row seen.caller.now x is.row;
+    row = row_kept old new b.row last seen.caller.now x is.row;
     command = is.command;
     begin = is.begin;
     ends = is.ends;
@@ -74,13 +74,15 @@ module _ (lines : List (Bor (List ℕ))) (w : Window) where
     above = λ k d fits. let was = h.above k d fits in (was.0, omega (arith, was.1));
     rising = h.rising;
     apart = h.apart;
+    used = h.used;
+    ordered = h.ordered;
     few = h.few;
     wide = h.wide;
   }
 
   -- one in which one begins
   pub bars_more : (limit : ℕ) (old new : List (Bor (List ℕ))) (bars : List Bar) (b : Bar)
-      (seen : LogCall) → AreBars lines w limit old bars → Extends old new
+      (seen : LogCall) → AreBars lines w limit old bars → Extends old new b.row
       → (AreApart old → AreApart new) → w.first ≤ limit → IsWanted lines w limit seen
       → IsBarOf new limit seen b → length bars < 200
       → AreBars lines w (limit + 1) new (bars ++ b ∷ [])
@@ -95,7 +97,7 @@ module _ (lines : List (Bor (List ℕ))) (w : Window) where
       ) in
       record {
         each = All-push (IsBar lines w new) bars b
-            (λ k d fits. bar_kept lines w old new (get_or bars k d) x (h.each k d fits)) here;
+            (λ k d fits. bar_kept lines w old new (get_or bars k d) b.row x (h.each k d fits)) here;
         all = λ k other a before its.
             elim (cases_lt k limit) as (λ _. (c : Bar) × Contains (bars ++ b ∷ []) c
             × (c.begin ≡ k)) [
@@ -114,6 +116,23 @@ module _ (lines : List (Bor (List ℕ))) (w : Window) where
             (λ k d fits. subst (λ (n : ℕ). (get_or bars k d).begin < n) (sym is.begin)
             (h.above k d fits).1);
         apart = apart h.apart;
+        used = λ k fits.
+            elim (cases_lt k (length old)) as (λ _. HasBar (bars ++ b ∷ []) k) [
+              | inl there ↦
+                  let (c, has, row) = h.used k there in
+                  (c, Contains-append_left bars (b ∷ []) c has, row)
+              | inr late ↦ (b, Contains-push bars b, x.3 k (omega (arith, late)) fits)
+            ];
+        ordered = All-push (HasEarlier (bars ++ b ∷ [])) bars b
+            (λ i d fits k less.
+            let (a, has, row, before) = h.ordered i d fits k less in
+            (a, Contains-append_left bars (b ∷ []) a has, row, before))
+            (λ k less.
+            let (a, has, row) = h.used k (omega (arith, less, is.row.0, wide, x.2)) in
+            let before : a.begin < limit =
+            (All-contains (λ (c : Bar). (w.first ≤ c.begin) × (c.begin < limit)) bars a h.above
+            has).1 in
+            (a, Contains-append_left bars (b ∷ []) a has, row, omega (arith, before, is.begin)));
         few = omega (arith, size, few);
         wide = omega (arith, size, wide, h.wide, x.2);
       }
@@ -128,6 +147,8 @@ none_above lines w limit lower rows bars early less h = record {
   above = λ k d fits. let was = h.above k d fits in absurd (omega (arith, was.0, was.1, early));
   rising = h.rising;
   apart = h.apart;
+  used = h.used;
+  ordered = h.ordered;
   few = h.few;
   wide = h.wide;
 }

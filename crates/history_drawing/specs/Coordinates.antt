@@ -35,11 +35,11 @@ columns bars = length bars + count_by (λ (b : Bar). is_some (own_end b)) bars
 
 -- where the column of a line begins
 abbrev pub left : List Bar → ℕ → ℕ
-left bars line = 130 + 118 * column bars line
+left bars line = 144 + 118 * column bars line
 
 -- where the last column ends
 abbrev pub right : List Bar → ℕ
-right bars = 130 + 118 * columns bars
+right bars = 144 + 118 * columns bars
 
 -- where a row begins
 abbrev pub top : ℕ → ℕ

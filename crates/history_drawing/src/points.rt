@@ -32,31 +32,26 @@ fn reaches(end: &BarEnd<'_>, line: usize) -> bool
     }
 }
 
-/// The point of a call that takes effect after another one: in the line of its begin, or in that of
-/// the other point, if that is a later one.
+/// The point of a call that takes effect after another one, or first, where the number of that one
+/// is 0: in the line of its begin, or in that of the other point, if that is a later one.
 fn point_after(bar: &Bar<'_>, before: &Point) -> Point
     requires number { before.now.number < 200 }
     requires part { before.now.part ≤ before.now.number }
-    ensures follows { Follows before.now result }
+    ensures follows { Follows bar.now.begin before.now result }
     ensures row { result.row ≡ bar.now.row }
-    ensures begun { bar.now.begin ≤ result.line }
-    ensures first { (line : ℕ) → bar.now.begin ≤ line → before.now.line ≤ line
-        → result.line ≤ line }
     ensures part { result.part ≤ result.number }
 {
-    if before.line < bar.begin {
-        return Point {
-            number: before.number + 1,
-            row: bar.row,
-            line: bar.begin,
-            part: 0,
-        };
-    }
+    let line = bar.begin.max(before.line);
+    let part = if before.number > 0 && line == before.line {
+        before.part + 1
+    } else {
+        0
+    };
     Point {
         number: before.number + 1,
         row: bar.row,
-        line: before.line,
-        part: before.part + 1,
+        line,
+        part,
     }
 }
 
@@ -66,7 +61,7 @@ fn next_point(bars: &[Bar<'_>], line: usize, before: &Point) -> Option<Point>
     requires rising { AllPairs (λ (one other : Bar). one.begin < other.begin) bars.now }
     requires part { before.now.part ≤ before.now.number }
     ensures point { IfSome result (IsPointOf bars.now line) }
-    ensures follows { IfSome result (Follows before.now) }
+    ensures follows { IfSome result (Follows line before.now) }
     ensures part { IfSome result (λ p. p.part ≤ p.number) }
     ensures none { IfNone result (before.now.number < 200 → (p : Point)
         → before.now.line ≤ p.line → ¬ (IsPointOf bars.now line p)) }

@@ -103,7 +103,7 @@ fn position_of(rows: &[&[u8]], caller: &[u8]) -> Option<usize>
 /// The row of a caller, which is a new one where the caller has none.
 fn row_of<'a>(rows: &mut Vec<&'a [u8]>, caller: &'a [u8]) -> Result<usize, AllocError>
     ensures there { IfOk result (λ row. IsRow rows.new.items row caller.now) }
-    ensures kept { OnOk result (Extends rows.old.items rows.new.items) }
+    ensures kept { IfOk result (Extends rows.old.items rows.new.items) }
     ensures apart { OnOk result (AreApart rows.old.items → AreApart rows.new.items) }
 {
     if let Some(row) = position_of(rows, caller) {
@@ -122,8 +122,8 @@ fn add_bar<'a>(
     call: LogCall<'a>,
 ) -> Result<(), AllocError>
     ensures bars { OnOk result ((b : Bar) × (bars.new.items ≡ bars.old.items ++ b ∷ [])
-        × IsBarOf rows.new.items line call.entry b) }
-    ensures kept { OnOk result (Extends rows.old.items rows.new.items) }
+        × IsBarOf rows.new.items line call.entry b
+        × Extends rows.old.items rows.new.items b.row) }
     ensures apart { OnOk result (AreApart rows.old.items → AreApart rows.new.items) }
 {
     let row = row_of(rows, call.caller)?;

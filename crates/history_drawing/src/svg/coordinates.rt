@@ -6,7 +6,7 @@ ghost use Rattle.history_drawing.specs.Coordinates.{right, top};
 use crate::timeline::{Bar, BarEnd};
 
 /// Where the first column begins.
-const LEFT: usize = 130;
+const LEFT: usize = 144;
 
 /// How wide a column is.
 const COLUMN: usize = 118;

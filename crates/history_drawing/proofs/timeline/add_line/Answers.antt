@@ -22,10 +22,10 @@ returns-then-len-eq-MAX_CALLS-clause-many c = λ full. record {
 
 pub returns-clause-fits : goal.returns-clause-fits
 returns-clause-fits c = λ fits.
-    let (b, new, is) = c.in_ok-add_bar.ensures.bars in
+    let (b, new, is, kept) = c.in_ok-add_bar.ensures.bars in
     let wanted : IsWanted c.args.lines.now c.args.window.now c.args.line c.in-Some.call =
     search rules in
     let few : length c.args.bars.now.items < 200 = search rules in
     rw new (bars_more c.args.lines.now c.args.window.now c.args.line c.args.rows.now.items
     c.add_bar.new.rows.items c.args.bars.now.items b c.in-Some.call c.requires.bars
-    c.in_ok-add_bar.ensures.kept c.in_ok-add_bar.ensures.apart c.requires.first wanted is few)
+    kept c.in_ok-add_bar.ensures.apart c.requires.first wanted is few)
