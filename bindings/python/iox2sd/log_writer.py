@@ -5,7 +5,7 @@ from dataclasses import dataclass
 from heapq import merge
 from itertools import count as numbers
 
-from ._arguments import U64, Size, items, number
+from ._arguments import U64, Size, instance, items, number
 from ._values import Value
 from .dynamic_config import DeregisterNodeState
 from .errors import (
@@ -32,6 +32,7 @@ class LogCommand(Value):
     @classmethod
     def register(cls, node: UniqueNodeId) -> "LogCommand":
         """Registers the node."""
+        instance(node, UniqueNodeId, "LogCommand.register")
         return cls(f"register {_dotted(node)}")
 
     @classmethod
@@ -42,6 +43,8 @@ class LogCommand(Value):
     @classmethod
     def add(cls, port: UniquePortId, node: UniqueNodeId) -> "LogCommand":
         """Attaches the port to the node."""
+        instance(port, UniquePortId, "LogCommand.add.port")
+        instance(node, UniqueNodeId, "LogCommand.add.node")
         return cls(f"add {_word(port.role)} {_dotted(port)} {_dotted(node)}")
 
     @classmethod
@@ -54,6 +57,7 @@ class LogCommand(Value):
         """Removes the ports of a dead node but those with these numbers, and the node where none of
         its ports stays.
         """
+        instance(node, UniqueNodeId, "LogCommand.dead.node")
         kept = [_dotted(port) for port in items(skip, UniquePortId, "LogCommand.dead.skip")]
         return cls(" ".join(["dead", _dotted(node), *(["skip", *kept] if kept else [])]))
 
@@ -106,11 +110,12 @@ class LogReply(Value):
     @classmethod
     def list(cls, ids: "Iterable[UniqueId]") -> "LogReply":
         """These nodes or ports, by rising slot."""
-        return cls(" ".join(["list", *map(str, ids)]))
+        return cls(" ".join(["list", *map(str, items(ids, UniqueId, "LogReply.list"))]))
 
     @classmethod
     def state(cls, state: DeregisterNodeState) -> "LogReply":
         """A node or its handle was removed: whether the service has nodes left."""
+        instance(state, DeregisterNodeState, "LogReply.state")
         return HAS_OWNERS if state is DeregisterNodeState.HAS_OWNERS else NO_OWNERS
 
 
@@ -159,6 +164,8 @@ class LogWriter:
         self, messaging_pattern: MessagingPattern, service_number: int, capacities: Capacities
     ) -> None:
         """The log of a service with nothing attached."""
+        instance(messaging_pattern, MessagingPattern, "LogWriter.messaging_pattern")
+        instance(capacities, Capacities, "LogWriter.capacities")
         pattern = messaging_pattern.name.lower().replace("_", "-")
         of = number(service_number, U64, "LogWriter.service_number")
         most = f"{capacities.nodes} {capacities.first} {capacities.second}"
@@ -172,6 +179,7 @@ class LogWriter:
 
         Raises `OutOfRangeError` for a name of another length, `IllegalByteError`.
         """
+        instance(name, str, "LogWriter.caller")
         if not 1 <= len(name) <= MAX_NAME:
             raise OutOfRangeError(f"LogWriter.caller: 1 to {MAX_NAME} bytes, got {len(name)}")
         if not (name.isascii() and name.isalnum()):
@@ -205,6 +213,7 @@ class LogCaller:
 
         Raises `CallerIsDeadError`, `CallerIsBusyError`.
         """
+        instance(command, LogCommand, "LogCaller.begin")
         if self._died:
             raise CallerIsDeadError("LogCaller.begin")
         if self._open is not None:
@@ -240,6 +249,7 @@ class LogToken:
 
         Raises `NoOpenCallError` where it has ended, or its caller died.
         """
+        instance(reply, LogReply, "LogToken.end")
         at = next(self._caller._numbers)
         if self._caller._open is not self or self._caller._died:
             raise NoOpenCallError("LogToken.end")
@@ -248,6 +258,7 @@ class LogToken:
 
 
 def _word(role: Role) -> str:
+    instance(role, Role, "LogCommand")
     if role is Role.NODE:
         raise RoleNotInPatternError("LogCommand")
     return role.name.lower()

@@ -127,6 +127,21 @@ class LogWriting(unittest.TestCase):
         self.assertRaises(iox2sd.OutOfRangeError, LogCommand.deregister, -1, 0)
         self.assertRaises(iox2sd.OutOfRangeError, LogReply.handle, 0, 2**64)
 
+    def test_arguments_of_other_types(self):
+        log, room = a_log(), Capacities(4, 3, 2)
+        caller = log.caller("A")
+        for call, *arguments in (
+            (LogWriter, 1, 7, room), (LogWriter, MessagingPattern.EVENT, 7, (4, 3, 2)),
+            (log.caller, 1), (caller.begin, "nodes"), (LogCommand.register, PORT),
+            (LogCommand.add, NODE, NODE), (LogCommand.add, PORT, PORT), (LogCommand.dead, PORT),
+            (LogCommand.list, "listener"), (LogReply.list, ["1"]), (LogReply.state, True),
+        ):
+            self.assertRaises(iox2sd.WrongTypeError, call, *arguments)
+        call = caller.begin(LogCommand.nodes())  # What was refused has begun no call.
+        self.assertRaises(iox2sd.WrongTypeError, call.end, "list")
+        call.end(LogReply.list([]))
+        self.assertEqual(log.text, "service event 7 4 3 2\nA> nodes\nA< list\n")
+
     def test_weak_listings_have_what_stays_and_others_are_snapshots(self):
         weak = (LogCommand.nodes_weak(), LogCommand.list_weak(Role.LISTENER))
         for listing in weak:
