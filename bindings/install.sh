@@ -44,6 +44,9 @@ made iox2sdConfig.cmake "$cmake"
 rm -rf "$share"
 (cd rust && find Cargo.toml build.rs README.md LICENSE-* NOTICE src examples -type f) |
     while read -r file; do install -D -m 644 "rust/$file" "$share/rust/$file"; done
+# It finds the library in LIBDIR.
+sed -i "s|\"[.][.]/[.][.]/[.][.]/lib\"|\"../../../$libdir\"|" "$share/rust/build.rs"
+grep -qF "\"../../../$libdir\"" "$share/rust/build.rs"
 
 # The wheel.
 if python3 -c 'import tomllib' 2> /dev/null; then

@@ -284,6 +284,8 @@ other=lib/x86_64-linux-gnu
 run "install.sh installs into other directories" \
     env LIBDIR=$other INCLUDEDIR=include/iox2sd ./install.sh "$work/debian" &&
     installed_at "$work/debian" $other "in other directories"
+has cargo && run "cargo, by a path, in other directories" \
+    alike of_rust ../examples/first.rs "$work/debian/share/iox2sd/rust"
 if run "install.sh installs" ./install.sh "$work/prefix"; then
     mv "$work/prefix" "$work/moved"
     installed_at "$work/moved" lib moved
