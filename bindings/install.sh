@@ -14,6 +14,7 @@ if [ $# -ne 1 ] || [[ $1 != /* || $libdir == /* || $includedir == /* ]]; then
     exit 2
 fi
 prefix=${DESTDIR:-}$1
+[[ $prefix == /* ]] || prefix=$PWD/$prefix # The stage lies where the caller is.
 cd "$(dirname "$0")"
 shared=$(basename out/libiox2sd.so.*)
 [ -f out/libiox2sd.a ] && [ -f "out/$shared" ] ||

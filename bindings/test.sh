@@ -279,6 +279,9 @@ installed_at() {
 }
 
 run "install.sh wants an absolute path" bash -c '! ./install.sh prefix'
+run "install.sh takes a stage from where it is called" bash -c \
+    'cd "$1" && DESTDIR=stage "$2/install.sh" /usr && [ -e stage/usr/lib/libiox2sd.a ]' \
+    - "$work" "$PWD"
 # The directories of a distribution, as GNUInstallDirs names them.
 other=lib/x86_64-linux-gnu
 run "install.sh installs into other directories" \
