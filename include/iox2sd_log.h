@@ -439,7 +439,7 @@ IOX2SD_CHECKED static inline iox2sd_log_token iox2sd_log_begin(iox2sd_log_caller
 
 /* Ends a call with the reply that was seen: call it right after the registry.
  * Errors: IOX2SD_STATUS_NULL; IOX2SD_STATUS_UNKNOWN_VARIANT, of a reply of no kind;
- * IOX2SD_STATUS_NO_OPEN_CALL, where the call has ended or was never begun;
+ * IOX2SD_STATUS_NO_OPEN_CALL, where the call has ended or was never begun, or its caller died;
  * IOX2SD_STATUS_NO_MEMORY, which a list alone meets: the call stays open. */
 IOX2SD_CHECKED static inline iox2sd_status iox2sd_log_end(iox2sd_log_token token,
                                                           iox2sd_log_reply reply) {
@@ -448,7 +448,7 @@ IOX2SD_CHECKED static inline iox2sd_status iox2sd_log_end(iox2sd_log_token token
     if (caller == NULL || (reply.ids == NULL && has_ids)) return IOX2SD_STATUS_NULL;
     if (reply.kind > IOX2SD_LOG_NOT_OWNED) return IOX2SD_STATUS_UNKNOWN_VARIANT;
     if (token.status != IOX2SD_STATUS_DONE || !caller->has_open_call ||
-        token.call + 1 != caller->call_count) {
+        token.call + 1 != caller->call_count || caller->died != IOX2SD_LOG_NEVER) {
         return IOX2SD_STATUS_NO_OPEN_CALL;
     }
     const uint64_t number = __atomic_fetch_add(&caller->writer->ends, 1, __ATOMIC_ACQ_REL);

@@ -108,7 +108,8 @@ private:
 class [[nodiscard]] LogToken {
 public:
     /// Ends the call: right after the registry replied.
-    /// Errors: `NoOpenCall`, where it has ended; `NoMemory`, which a list alone meets.
+    /// Errors: `NoOpenCall`, where it has ended or its caller died; `NoMemory`, which a list alone
+    /// meets.
     Result<void> end(const LogReply& reply) noexcept {
         return detail::result(iox2sd_log_end(token_, reply.as_c()));
     }

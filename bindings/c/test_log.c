@@ -180,6 +180,7 @@ static void deaths(void) {
     CHECK(iox2sd_log_died(a) == IOX2SD_STATUS_CALLER_IS_DEAD);
     CHECK(iox2sd_log_begin(a, iox2sd_log_nodes()).status == IOX2SD_STATUS_CALLER_IS_DEAD);
     CHECK(open.status == IOX2SD_STATUS_DONE);
+    CHECK(iox2sd_log_end(open, iox2sd_log_listed(NULL, 0)) == IOX2SD_STATUS_NO_OPEN_CALL);
     CHECK(iox2sd_log_begin(d, iox2sd_log_nodes()).status == IOX2SD_STATUS_DONE);
     CHECK(has_lines(&writer, "B> nodes\nB< list\nA> nodes\nB!\nA!\nD> nodes\n"));
     iox2sd_log_writer_free(&writer);

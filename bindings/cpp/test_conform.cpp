@@ -177,8 +177,9 @@ void written() {
     CHECK(first.end(LogReply::full()).status() == Status::NoOpenCall);
     const iox2sd_id id = node.parts();
     CHECK(a.begin(LogCommand::nodes()).value().end(LogReply::list(&id, 1)));
-    CHECK(b.begin(LogCommand::deregister_node(0, 0)));
+    LogToken open = b.begin(LogCommand::deregister_node(0, 0)).value();
     CHECK(b.died() && b.begin(LogCommand::nodes()).status() == Status::CallerIsDead);
+    CHECK(open.end(LogReply::no_owners()).status() == Status::NoOpenCall);
     CHECK(a.begin(LogCommand::register_node(node)).value().end(LogReply::locked()));
     const List<char> text = log.text().value();
     CHECK(check_log(text).status == Status::Done && check_log(text).calls == 5);
