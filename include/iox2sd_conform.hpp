@@ -336,7 +336,8 @@ private:
         : service_(std::move(service)), log_(std::move(log)), caller_(caller) {}
 
     bool is_own(const ContainerHandle& handle) const noexcept {
-        return handle.service == service_.service_number().value();
+        const Result<std::uint64_t> number = service_.service_number();
+        return number && handle.service == *number;
     }
 
     static bool is_port(Role role) noexcept { return role > Role::Node && role <= Role::Writer; }
@@ -362,9 +363,10 @@ private:
     }
 
     /// Makes a call, and writes it down with its reply. Memory for its line is taken first, so the
-    /// line cannot be missing.
+    /// line cannot be missing. One that was moved from has no caller: it only makes the call.
     template <class Reply, class Make>
     std::invoke_result_t<Make> recorded(const LogCommand& command, Reply reply, Make make) {
+        if (!service_.service_number()) return make();
         const Result<void> taken = caller_.reserve(1, command.as_c().kept_count);
         if (!taken) return taken.error();
         auto made = make();
@@ -383,6 +385,7 @@ private:
     /// The same of a query that returned a list or was refused.
     template <class T, class Parts>
     Result<List<T>> listed(const LogCommand& command, Result<List<T>> found, Parts parts) noexcept {
+        if (!service_.service_number()) return found;
         List<iox2sd_id> ids;
         if (found) {
             Result<List<iox2sd_id>> copied = List<iox2sd_id>::of_range(*found, parts);
@@ -406,12 +409,13 @@ private:
 
     /// The ids of the ports of both kinds that have these numbers.
     Result<List<UniquePortId>> of_both_kinds(const List<iox2sd_id>& numbers) const noexcept {
-        const PortRoles roles = service_.port_roles().value();
+        const Result<PortRoles> roles = service_.port_roles();
+        if (!roles) return roles.error();
         return List<UniquePortId>::written_by(
             [&](UniquePortId* out, std::size_t capacity) {
                 for (const iox2sd_id& number : numbers) {
-                    ::new (out++) UniquePortId(roles.first, number, detail::FromLibrary());
-                    ::new (out++) UniquePortId(roles.second, number, detail::FromLibrary());
+                    ::new (out++) UniquePortId(roles->first, number, detail::FromLibrary());
+                    ::new (out++) UniquePortId(roles->second, number, detail::FromLibrary());
                 }
                 return detail::counted(IOX2SD_STATUS_DONE, capacity);
             },

@@ -387,6 +387,20 @@ void what_has_no_line() {
     CHECK(Recorder::create(PatternKind{4}, 7, {1, 1, 1}).status() == Status::UnknownPattern);
 }
 
+/// One that was moved from holds no service, also where the other is gone.
+void moved_from() {
+    const UniqueNodeId node = UniqueNodeId::create(1, 0, 0, 1).value();
+    const UniquePortId port = UniqueListenerId(1, 0, 0, 2);
+    Recorder recorder = Recorder::create(PatternKind::Event, 7, {1, 1, 1}).value();
+    { const Recorder other = std::move(recorder); }
+    CHECK(recorder.register_node_id(node).status() == Status::NoService);
+    CHECK(recorder.deregister_node_id({7, Role::Node, 0, 0}).status() == Status::NoService);
+    CHECK(recorder.release_port({7, Role::Listener, 0, 0}).status() == Status::NoService);
+    CHECK(recorder.remove_dead_node_id(node, {port}).status() == Status::NoService);
+    CHECK(recorder.nodes().status() == Status::NoService);
+    CHECK(recorder.count_ports(Role::Listener).status() == Status::NoService);
+}
+
 }  // namespace
 
 int main() {
@@ -405,5 +419,6 @@ int main() {
     random_calls();
     kept_together();
     what_has_no_line();
+    moved_from();
     return end_of_checks();
 }
