@@ -316,6 +316,7 @@ inline ConfigError config_error(std::string_view text, List<char> file,
         [text](iox2sd_config_fault* out, std::size_t capacity) {
             return iox2sd_config_faults(bytes(text), text.size(), out, capacity);
         });
+    if (found.status() == Status::NoMemory) return {Status::NoMemory, {}, 0, std::move(file)};
     const bool has_keys = found && !found->empty();
     const iox2sd_config_fault* const faults = has_keys ? found->data() : &first;
     auto made = List<ConfigFault>::of(

@@ -262,10 +262,11 @@ def _refused(text: bytes, file: Optional[str], first: Any) -> RefusedError:
     """Why the text of a file with this first fault gives no settings."""
     found, front = [first], _native.front
     if first.key_length != 0:
-        count = _native.config_faults_at(text, len(text), None, 0).count
-        faults = (_native.ConfigFault * count)()
-        if _native.config_faults_at(text, len(text), faults, count).status == _native.DONE:
-            found = list(faults)
+        needed = _native.config_faults_at(text, len(text), None, 0)
+        _check_needed(needed.status)
+        found = (_native.ConfigFault * needed.count)()
+        answer = _native.config_faults_at(text, len(text), found, needed.count)
+        check(answer.status, "Config.from_toml")
     return BadConfigError(tuple(
         ConfigFault(
             file, c.line or None, c.column or None, front(c.key, c.key_length),
@@ -275,9 +276,16 @@ def _refused(text: bytes, file: Optional[str], first: Any) -> RefusedError:
     ))
 
 
+def _check_needed(status: int) -> None:
+    """Raises the error of a call without a buffer, unless it said what buffer it needs."""
+    if status != _native.BUFFER_TOO_SHORT:
+        check(status, "Config.from_toml")
+
+
 def _unknown(text: bytes, file: Optional[str]) -> "tuple[UnknownKey, ...]":
     """The unknown keys of the text of a file that gives settings."""
     needed = _native.config_unknown_at(text, len(text), None, 0, None, 0)
+    _check_needed(needed.status)
     keys = (_native.UnknownKey * needed.count)()
     paths = (ctypes.c_uint8 * needed.length)()
     answer = _native.config_unknown_at(text, len(text), keys, needed.count, paths, needed.length)
