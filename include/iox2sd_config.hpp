@@ -164,8 +164,9 @@ IOX2SD_WRITTEN(ConfigError);
 
 /// Why settings give no text.
 struct ConfigWriteError {
-    Status status;  ///< `NoTomlInteger`, of a number above 2^63 - 1; `BadDuration`; `NoMemory`.
-    SettingsField field;  ///< With `BadDuration`, the field that is invalid.
+    /// `BadDuration`; `UnknownStrategy`; `NoTomlInteger`, of a number above 2^63 - 1; `NoMemory`.
+    Status status;
+    SettingsField field;  ///< With the first two, the field that is invalid.
     Text<80> key;         ///< With `NoTomlInteger`, the path of the first such key.
 
     IOX2SD_FIELDS(status, field, key);
@@ -174,7 +175,8 @@ struct ConfigWriteError {
     Text<255> text() const noexcept {
         const std::string_view words = iox2sd::text(status);
         if (!key.empty()) return Text<255>::joined({key, ": ", words});
-        if (status != Status::BadDuration) return Text<255>::joined({words});
+        const bool has_field = status == Status::BadDuration || status == Status::UnknownStrategy;
+        if (!has_field) return Text<255>::joined({words});
         return Text<255>::joined({iox2sd::text(field), ": ", words});
     }
 };

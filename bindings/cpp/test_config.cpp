@@ -140,6 +140,11 @@ void writing() {
     refused = config.to_toml();
     CHECK(refused.status() == Status::BadDuration && refused.error().key.empty());
     CHECK(refused.error().field == SettingsField::Deadline);
+    config = read("");
+    config.publish_subscribe.publisher_allocation_strategy = AllocationStrategy{3};
+    refused = config.to_toml();
+    CHECK(refused.status() == Status::UnknownStrategy);
+    CHECK(written(refused.error()) == "publisher_allocation_strategy: unknown strategy");
 }
 
 /// What is read of a file with these bytes, which is closed again.
