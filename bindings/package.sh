@@ -127,9 +127,10 @@ deb iox2sd-tools
 
 # ---- What the bytes stand on ----
 
+changes=$(git -C "$top" status --porcelain || true)
 {
     echo "version: $version"
-    echo "commit: $(git -C "$top" rev-parse HEAD)"
+    echo "commit: $(git -C "$top" rev-parse HEAD)${changes:+, and changes that it has not}"
     echo "toolchain: $(rt version)"
     # What the gate printed of each crate, and its last line.
     if [ -f "$top/out/gate" ]; then
