@@ -9,7 +9,7 @@
  * another began, its end stands above that begin in the log. Begins stand above an end of the same
  * number.
  *
- * - Memory is taken by malloc and realloc where a caller is made, and where it has more calls or
+ * - Memory is taken by calloc and realloc where a caller is made, and where it has more calls or
  *   ids than were reserved. It is freed by iox2sd_log_writer_free alone.
  * - Where memory is refused the status says so, and the log is as it was.
  * - One thread at a time uses a caller. Callers are made on any thread. The writer is written and

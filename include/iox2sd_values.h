@@ -722,7 +722,8 @@ IOX2SD_CHECKED iox2sd_flag_answer iox2sd_has_same_messaging_pattern(iox2sd_patte
 
 /* ---- Opening a service ---- */
 
-/* What a service has. What is NULL is not compared. */
+/* What a service has. Attributes of NULL and 0 are none. The types of messages, and of responses,
+ * are compared where neither this nor what is required has NULL there. */
 typedef struct iox2sd_offer {
     const iox2sd_description *description;
     const iox2sd_attribute *attributes;
