@@ -73,7 +73,7 @@ repeats() {
         diff "$work/printed" "$work/$1/stdout"
 }
 has_version() { [ "$("$prefix/bin/$1" --version)" = "$1 $version (iceoryx2 0.9.3)" ]; }
-has_manual() { zcat "$prefix/share/man/man1/$1.1.gz" | man -l - | grep -q "usage: $1"; }
+has_manual() { zcat "$prefix/share/man/man1/$1.1.gz" | man -l - | grep "usage: $1"; }
 refuses_argument() { ! "$prefix/bin/$1" what < /dev/null; }
 # The order of a log's calls. Progress is shown on a terminal alone.
 has_witness() {
