@@ -71,6 +71,12 @@ env -u IOX2SD_LIBRARY python3 -B python/build_wheel.py --sdist "$dist" > "$work/
 
 # ---- Debian packages ----
 
+# The least version of the C library that has all symbols which the files of a folder want.
+libc_of() {
+    { grep -raohE 'GLIBC_[0-9]+([.][0-9]+)+' "$1" || [ $? -eq 1 ]; } | sed 's/GLIBC_//' |
+        sort -uV | tail -n 1
+}
+
 # The folder of a package is $work/deb/NAME; its control file comes last.
 deb() {
     local root=$work/deb/$1
@@ -81,7 +87,8 @@ deb() {
     (cd "$root" && find usr -type f -print0 | sort -z | xargs -0 md5sum) > "$work/md5sums"
     install -d "$root/DEBIAN"
     install -m 644 "$work/md5sums" "$root/DEBIAN/md5sums"
-    sed -e "s/@VERSION@/$version/g" "$top/debian/$1.control" > "$root/DEBIAN/control"
+    sed -e "s/@VERSION@/$version/g" -e "s/@LIBC@/$(libc_of "$root/usr")/" \
+        "$top/debian/$1.control" > "$root/DEBIAN/control"
     echo "Installed-Size: $(du -k -s --apparent-size "$root/usr" | cut -f 1)" \
         >> "$root/DEBIAN/control"
     for script in triggers shlibs symbols; do
