@@ -132,7 +132,7 @@ public:
 
     /// Begins a call: right before the registry is called.
     /// Errors: `CallerIsDead`; `CallerIsBusy`, while the last call is open; `UnknownRole` for
-    /// `Role::Node`; `NoMemory`.
+    /// `Role::Node`; `NoMemory`. A command from C may have the other errors of iox2sd_log_begin.
     Result<LogToken> begin(const LogCommand& command) noexcept {
         const iox2sd_log_token token = iox2sd_log_begin(caller_, command.as_c());
         return detail::result(token.status, LogToken(token));
