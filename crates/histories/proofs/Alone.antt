@@ -1,7 +1,7 @@
 -- Calls that are made at once: those that change nothing, and those that come first or overlap
 -- nothing. Where no call is open, what comes next is judged from the states.
 use Rattle.histories.proofs.Words.{[], ◌≡◌, ◌↔◌, slice_set, true, ℕ, zero, suc, ◌+◌, ◌<◌, List, ◌∷◌, ◌++◌, length, get_or, Option, refl, sym, ◌∙◌, ap, subst, arith, inl, inr, append_assoc, cases_lt, Event, Begin, End, Config, Link, AreAll, begins, times, Explains, Leads, HasSlot, IsFrontier, IsSound, IsTable, Path, order_at, order_of, path_more, path_of, Agrees, IsQuiet, IsMadeIn, CallsAloneAreRuns, ◌≤◌, AllPairs, IsIdle, IsSame, IsWaiting, cleared, IsCopy, IsSettled, Settles, Spot, WaitsInNone, spot_of, IsClosed, IsClosing, IsMadeFirst, IsNextAt, bit_at, map, IsExplained, AreEach, IsUnlinked}
-use Rattle.histories.proofs.Lists.{nothing_in, one_of_one, only, order_more, no_times, not_some, split_times, times-append, times-cons, times_one, times_other, times_same, contains_map_of, contains_of_map, each_from, each_to}
+use Rattle.histories.proofs.Lists.{nothing_in, one_of_one, only, order_more, no_times, not_some, split_times, times-append, times-cons, times_one, times_other, times_same, contains_map_of, contains_of_map, each_from, each_to, enough}
 use Rattle.histories.specs.Histories.{calls_alone, in_order}
 use Rattle.histories.proofs.Events.{answered_now, begins_begin, begins_ends, begins_none, ended_now, ended_still, open_begin_cases, open_begin_now, open_end_before, open_end_other, sound_begin, sound_end, sound_none, quiet_empty}
 use Rattle.histories.proofs.Running.{leads_push, leads_split, lighter_idle, lighter_then, runs_then, runs_fewer, runs_nothing, cleared_same, slot_64}
@@ -249,7 +249,7 @@ module _ {S : Type 0} (Step : S → ℕ → S → Type 0) (slots : List (Option 
   added : Settles Step slots (IsNextAt Step slots config slot) [] (settled ∷ [])
   added =
       settles_call Step slots config slot call (made.state ∷ []) _ _ (here, first.0)
-      (first.2.0, inl first.2.1)
+      (enough _ (made.state ∷ []) (omega arith) first.2)
       (settles_only Step slots _ _ _ _ (rw (← first.4, ← first.3)
       (settles_one Step slots (spot_of made) settled _ _ idle
       (gathers_new [] settled (λ i d h. absurd (omega arith))))))

@@ -1,8 +1,9 @@
 -- One event more.
 use Rattle.histories.proofs.Words.{[], map, get_or, get_or-map, length-map, sym, subst, None, suc, HasManyOpen, AreTaken, eq-eqb, Some, false, ◌≡◌, ◌≢◌, ℕ, zero, ◌+◌, ◌<◌, ◌⊎◌, List, ◌∷◌, ◌++◌, length, cond, refl, ap, arith, inl, inr, ◌∙◌, Option, cases_eq, eqb_tells, slice_get_within, FreesSlot, TakesSlot, Event, Begin, End, Crash, EndsAt, HasEnded, IsAnswered, IsOpen, IsOver, StandsAt, Ends, IsSound, HasSlot, IsTable, take, cases_lt, IsQuiet, begins, times}
-use Rattle.histories.proofs.Running.{slot_once}
+use Rattle.histories.proofs.Running.{slot_once, slot_within}
+use Rattle.std.proofs.lemmas.Option.{same_Some}
 use Rattle.histories.specs.Histories.{begins, times}
-use Rattle.histories.proofs.Lists.{at_times, times_once, times_one, times_other}
+use Rattle.histories.proofs.Lists.{at_times, times_at, times_once, times_one, times_other}
 
 pub begins-append : (c : ℕ) (es fs : List Event) → begins c (es ++ fs) ≡ begins c es + begins c fs
 unfolding begins
@@ -345,12 +346,30 @@ module _ (events : List Event) (slots : List (Option ℕ)) (c : ℕ) (s : IsSoun
         subst (λ y. IsOpen (events ++ Begin c ∷ []) y) e (open_begin_now events c s fresh)
     open_now x (suc i) h e = open_begin_still events c x (rw e at (open_at i (omega (arith, h))))
 
+    -- a call that is open begins now, or has a slot
+    among_now : (x : ℕ) → IsOpen (events ++ Begin c ∷ []) x → 0 < times x (c ∷ calls)
+    among_now x is =
+        elim (open_begin_cases events c x is) [
+          | inl before ↦
+              let at = table.all x before in
+              let within : at.0 < length calls =
+              omega (arith, slot_within slots at.0 x at.1, length-map slots number) in
+              let there : get_or calls at.0 0 ≡ x =
+              same_Some _ _ (sym (call_at at.0 within) ∙ at.1) in
+              rw there at (times_at (c ∷ calls) (suc at.0) 0 (omega (arith, within)))
+          | inr now ↦
+              subst (λ y. 0 < times y (c ∷ calls)) now (times_at (c ∷ calls) 0 0 (omega arith))
+        ]
+
     pub many_open : HasManyOpen (events ++ Begin c ∷ [])
     many_open = (
       c ∷ calls,
-      omega (arith, taken.0, length-map slots number),
+      omega (arith, taken.0, table.few, length-map slots number),
       λ x. times_once x (c ∷ calls) (same x),
-      λ x h. let at = at_times x (c ∷ calls) h in open_now x at.0 at.1 at.2,
+      λ x. (
+        λ h. let at = at_times x (c ∷ calls) h in open_now x at.0 at.1 at.2,
+        among_now x,
+      ),
     )
 
 pub ended_left : (es fs : List Event) (c : ℕ) → HasEnded es c → HasEnded (es ++ fs) c

@@ -1,6 +1,6 @@
 -- Windows that grow by events, fronts that go on event by event, also while replies are still to
 -- come, and verdicts.
-use Rattle.histories.proofs.Words.{[], ◌≡◌, ◌↔◌, ℕ, ◌+◌, ◌<◌, List, ◌∷◌, ◌++◌, length, take, refl, sym, ◌∙◌, ap, arith, inl, inr, append_assoc, append-nil, true, Event, Begin, End, Crash, Advance, Front, AdvancesIn, BeginsAnew, IsAdvance, IsMadeAlone, IsSameFront, begins, IsExplained, IsHistory, IsOpen, StandsAt, IsFrontOf, IsSound, Stop, Window, AgreesOn, GoesTo, IsWellFormed, BeginsWindow, IsStop, IsStopAt, VerdictsExclude, cases_order, ◌≤◌, get_or, take_all, length-take-le, take-take, take-append_seam, get_or_from_slice_get, slice_get-get_or, Cut, IsMadeNext, CutsAt, Bool, false, drop, take-append-drop, take-append-add, HasSlot, GoesOnTo, IsFrontAfter, Precedes}
+use Rattle.histories.proofs.Words.{[], ◌≡◌, ◌↔◌, ℕ, ◌+◌, ◌<◌, List, ◌∷◌, ◌++◌, length, take, refl, sym, ◌∙◌, ap, arith, inl, inr, append_assoc, append-nil, true, Event, Begin, End, Crash, Advance, Front, AdvancesIn, BeginsAnew, IsAdvance, IsMadeAlone, IsSameFront, begins, IsExplained, IsHistory, IsOpen, StandsAt, IsFrontOf, IsSound, Stop, Window, AgreesOn, GoesTo, IsWellFormed, BeginsWindow, IsStop, IsStopAt, VerdictsExclude, cases_order, ◌≤◌, get_or, take_all, length-take-le, take-take, take-append_seam, get_or_from_slice_get, slice_get-get_or, Cut, IsMadeNext, CutsAt, Bool, false, drop, take-append-drop, take-append-add, HasSlot, GoesOnTo, IsFrontAfter, Precedes, IsBusyFrom, IsQuiet, cases_lt}
 use Rattle.histories.specs.Frontier.{HasManyOrders}
 use Rattle.histories.specs.Windows.{LeadsTooFar}
 use Rattle.histories.proofs.Frontiers.{front_same}
@@ -152,15 +152,16 @@ module _ {S : Type 0} (Step : S → ℕ → S → Type 0) (olds : List S) where
         rw (← append-nil es) ((explained_more _ history_now).1
         (rw (← append-nil g.is.inside) at explained_inside))
 
+    -- a call that is open in the window is open
+    pub open_now : (c : ℕ) → IsOpen g.is.inside c → IsOpen es c
+    open_now c now =
+        rw (← append-nil es) (open_more _ history_now _ (rw (← append-nil g.is.inside) at now))
+
     -- where the machine makes the calls as the history has it, it does so in the window
     pub agrees_inside : (Made : S → ℕ → S → Type 0) (more : List Event)
         → AgreesOn Made Step es more → AgreesOn Made Step g.is.inside more
     agrees_inside Made more agrees c is =
-        agrees c (elim is [
-          | inl now ↦ inl (rw (← append-nil es) (open_more _ history_now _
-              (rw (← append-nil g.is.inside) at now)))
-          | inr then ↦ inr then
-        ])
+        agrees c (elim is [ | inl now ↦ inl (open_now c now) | inr then ↦ inr then ])
 
     -- a window begins where no call is open
     pub goes_anew : (new : Front S) → BeginsAnew Step w.front new true
@@ -260,7 +261,11 @@ module _ {S : Type 0} (Step : S → ℕ → S → Type 0) (olds : List S) (es : 
         ])
     stops advance.ManyOpen many =
         stop_of _
-        (rw more (many.0, many.1, many.2, λ c has. open_more _ _ _ _ g _ history _ (many.3 c has)))
+        (rw more (many.0, many.1, many.2, λ c. (
+          λ has. open_more _ _ _ _ g _ history _ ((many.3 c).0 has),
+          λ is. (many.3 c).1 (open_inside _ _ c g.is.cut.quiet
+              (rw (split_more _ _ _ _ g _ history) at is)),
+        )))
     stops advance.NoEvent closed = closed (formed_next _ _ _ (formed_more _ _ _ _ g _ history)).1
 
 -- the events up to one that stands at an index, and the next one
@@ -281,6 +286,18 @@ take_both es at e f one other =
 -- the first events of a history are one
 pub history_front : (es : List Event) (k : ℕ) → IsHistory es → IsHistory (take k es)
 history_front es k history index event at = grind (arith, stands_take, take-take)
+
+-- where too many calls are open behind one of the first events, they are in all
+pub open_front : {S : Type 0} (Step : S → ℕ → S → Type 0) (olds : List S) (es : List Event)
+    (index at : ℕ) → index ≤ length es → IsStop Step olds (take index es) at stop.ManyOpen
+    → IsStop Step olds es at stop.ManyOpen
+open_front Step olds es index at within s =
+    let inside : at < index = omega (arith, s.within, length-take-le index es within) in
+    record {
+      within = omega (arith, inside, within);
+      before = rw (take-take at index es (omega (arith, inside))) at s.before;
+      at = rw (take-take (at + 1) index es (omega (arith, inside))) at s.at;
+    }
 
 -- where an order explains the events, none of them is refused
 module _ {S : Type 0} (Step : S → ℕ → S → Type 0) (olds : List S) (es : List Event)
@@ -309,35 +326,47 @@ verdicts_exclude Step olds es end window last index other history = (
 pub history_past : (past window : List Event) → IsHistory (past ++ window) → IsHistory past
 history_past past window history = rw (← take-append_seam past window) (history_front _ _ history)
 
--- The events end in the window, and where they are never cut, all of them are in it.
+-- The events end in the window. It begins where no call was open last, or where they are never
+-- cut, its configurations are those of all orders that explain them.
 pub record FollowsTo {S : Type 0} (Step : S → ℕ → S → Type 0) (olds : List S) (c : Cut)
     (es : List Event) (w : Window S) : Type 0 where
   pub goes : GoesTo Step olds es w
-  pub whole : c ≡ cut.Never → (goes.is.past ≡ []) × (goes.is.states ≡ olds)
+  pub latest : c ≡ cut.WhereQuiet → IsBusyFrom w.begin es
+  pub whole : c ≡ cut.Never → IsFrontOf Step w.front es olds
 
 pub follows_begin : {S : Type 0} (Step : S → ℕ → S → Type 0) (olds : List S) (c : Cut)
     (front : Front S) → 0 < length olds → IsFrontOf Step front [] olds
     → FollowsTo Step olds c [] (record { begin = 0; front = front })
 follows_begin Step olds c front some f = record {
   goes = goes_begin Step olds front some f;
-  whole = λ never. (refl, refl);
+  latest = λ quiet at more less. absurd (omega (arith, more, less));
+  whole = λ never. f;
 }
 
--- the events are in the window, and are cut or not
+-- The events are cut or not. Behind each of them in the window but the last a call is open.
 follows_cut : {S : Type 0} (Step : S → ℕ → S → Type 0) (olds : List S) (c : Cut)
     (es : List Event) (count : ℕ) (old new : Window S) → count ≡ length es
-    → FollowsTo Step olds c es old → CutsAt Step c count old new → FollowsTo Step olds c es new
-follows_cut Step olds cut.WhereQuiet es count old new is f cuts = record {
-  goes = goes_window _ _ _ _ _ _ is f.goes cuts;
+    → GoesTo Step olds es old
+    → (c ≡ cut.WhereQuiet → (k : ℕ) → old.begin < k → k < count → ¬ (IsQuiet (take k es)))
+    → (c ≡ cut.Never → IsFrontOf Step old.front es olds)
+    → CutsAt Step c count old new → FollowsTo Step olds c es new
+follows_cut Step olds cut.WhereQuiet es count old new is g busy whole cuts = record {
+  goes = goes_window _ _ _ _ _ _ is g cuts;
+  latest = λ same k more less quiet.
+      elim cuts [
+        | inl anew ↦ absurd (omega (arith, anew.0, is, more, less))
+        | inr stays ↦ elim (cases_lt k count) [
+            | inl before ↦ busy refl k (omega (arith, stays.0, more)) before quiet
+            | inr last ↦
+                let open_call = stays.1.1 g.is.inside g.is.states g.is.front in
+                let now = open_now _ _ _ _ g open_call.0 open_call.1 in
+                now.1 (rw (take_all k es (omega (arith, last, is))) at quiet _ now.0)
+          ]
+      ];
   whole = λ never. absurd (cc);
 }
-follows_cut {S} Step olds cut.Never es count old new is f same = rw same f
-
--- the configurations are then those of all orders
-pub follows_whole : {S : Type 0} (Step : S → ℕ → S → Type 0) (olds : List S) (c : Cut)
-    (es : List Event) (w : Window S) → FollowsTo Step olds c es w → c ≡ cut.Never
-    → IsFrontOf Step w.front es olds
-follows_whole Step olds c es w f never = grind arith
+follows_cut {S} Step olds cut.Never es count old new is g busy whole same =
+    rw same (record { goes = g; latest = λ quiet. absurd (cc); whole = whole })
 
 module _ {M S : Type 0} (StepOf : M → S → ℕ → S → Type 0) (machine : M) (olds : List S)
     (es : List Event) (at : ℕ) (history : IsHistory es) (c : Cut) (w : Window S)
@@ -349,22 +378,31 @@ module _ {M S : Type 0} (StepOf : M → S → ℕ → S → Type 0) (machine : M
       → IsHistory (take at es ++ more)
   history_to k more is = rw (← is) (history_front _ _ history)
 
-  -- so many events more
-  follows_more : (k : ℕ) (more : List Event) → k ≤ length es → take k es ≡ take at es ++ more
+  -- so many events more, and a call is open behind each but the last
+  follows_more : (k : ℕ) (more : List Event) → k ≤ length es → at ≤ k
+      → take k es ≡ take at es ++ more
+      → ((n : ℕ) → at < n → n < k → ¬ (IsQuiet (take n es)))
       → (new : Front S) (window : Window S) → Passes StepOf machine w.front more new
       → CutsAt Step c k (record { begin = w.begin; front = new }) window
       → FollowsTo Step olds c (take k es) window
-  follows_more k more within is new window passes cuts =
+  follows_more k more within behind is between new window passes cuts =
       let first = take at es in
       let g = f.goes in
       let all = history_to _ _ is in
+      let pass = λ (es : List Event) (olds : List S).
+      passes machine es olds (λ c is old new. (λ x. x, λ x. x)) in
       follows_cut _ _ _ _ _ _ _ (sym (length-take-le k es within))
-      (rw is (record {
-        goes = goes_more Step olds first w g more all new
-            (passes machine g.is.inside g.is.states (λ c is old new. (λ x. x, λ x. x))
-            (formed_more _ _ _ _ g _ all) g.is.front);
-        whole = f.whole;
-      })) cuts
+      (rw is (goes_more Step olds first w g more all new
+      (pass g.is.inside g.is.states (formed_more _ _ _ _ g _ all) g.is.front)))
+      (λ same n low high.
+      rw (take-take n k es (omega (arith, high)))
+      (elim (cases_lt at n) [
+        | inl later ↦ between n later high
+        | inr earlier ↦
+            rw (← take-take n at es earlier)
+            (f.latest same n low (omega (arith, earlier, behind, within, length-take-le at es)))
+      ]))
+      (λ never. rw is (pass first olds (formed_history _ all) (f.whole never)).0) cuts
 
   pub follows_alone : (new : Front S) (window : Window S)
       → IsMadeNext StepOf machine es at w.front new true
@@ -373,7 +411,11 @@ module _ {M S : Type 0} (StepOf : M → S → ℕ → S → Type 0) (machine : M
   follows_alone new window made cuts =
       let last = stands_within es (at + 1) (End made.0) made.2 in
       follows_more (at + 2) (Begin made.0 ∷ End made.0 ∷ []) (omega (arith, last))
-      (take_both es at (Begin made.0) (End made.0) made.1 made.2) new window
+      (omega arith) (take_both es at (Begin made.0) (End made.0) made.1 made.2)
+      (λ n low high quiet.
+      let is : n ≡ at + 1 = omega (arith, low, high) in
+      let ends = history (at + 1) (End made.0) made.2 in
+      ends.1 (rw is at quiet made.0 ends.0)) new window
       (passes_alone StepOf machine w.front made.0 new made.3) cuts
 
   -- one event more, of a front that is the same
@@ -386,7 +428,8 @@ module _ {M S : Type 0} (StepOf : M → S → ℕ → S → Type 0) (machine : M
         → CutsAt Step c (at + 1) (record { begin = w.begin; front = new }) window
         → FollowsTo Step olds c (take (at + 1) es) window
     follows_done window advances cuts =
-        follows_more _ _ (omega (arith, h)) (one_more _ at d h) _ _ (passes_one _ _ w.front _ new
+        follows_more _ _ (omega (arith, h)) (omega arith) (one_more _ at d h)
+        (λ n low high. absurd (omega (arith, low, high))) _ _ (passes_one _ _ w.front _ new
         (advance_same _ _ w.front front is _ new advance.Done advances)) cuts
 
     pub stopped : (result : Advance) → IsAdvance StepOf machine front e new result

@@ -2,7 +2,7 @@
 use Rattle.histories.proofs.Words.{[], ◌≡◌, Option, ℕ, ◌+◌, ◌<◌, ◌⊎◌, List, ◌∷◌, ◌++◌, length, take, get_or, refl, sym, ◌∙◌, ap, subst, arith, inl, inr, true, false, bit_at, cases_eq, cases_order, length_push, take_more, All-contains, Contains-append_left, Contains-push, Contains-push_cases, all_pairs_push, slice_set, Config, AreEnough, AllPairs, Contains, map, length-map, ◌≢◌, IsSame, IsWaiting, Path, cleared, path_more, path_of, Adds, FromOne, Gathers, IsBegun, IsCopy, IsDone, IsDropped, IsKnown, IsMadeIn, IsNextAt, IsNextBeside, IsNextIn, IsOpened, IsSettled, IsSpot, Settles, Spot, spot_of}
 use Rattle.histories.specs.Gathering.{IsNext}
 use Rattle.histories.proofs.Running.{slot_once}
-use Rattle.histories.proofs.Lists.{nothing_in, one_of_one, contains_map_of, no_more}
+use Rattle.histories.proofs.Lists.{nothing_in, one_of_one, contains_map_of, no_more, enough}
 
 spot_with : {S : Type 0} → S → ℕ → Path → Spot S
 spot_with state waiting made = record { state = state; waiting = waiting; made = made }
@@ -245,16 +245,16 @@ module _ {S : Type 0} (Step : S → ℕ → S → Type 0) (slots : List (Option 
       → AreEnough (Step from.state call) states
       → Settles Step slots (FromOne (IsNextIn from slot call) states) old new
       → Settles Step slots (IsNextAt Step slots from slot) old new
-  settles_call from slot call states old new waits enough g =
+  settles_call from slot call states old new waits are g =
       let there : (k : Spot S) → FromOne (IsNextIn from slot call) states k
       → IsNextAt Step slots from slot k = λ k p. (
         call,
         waits,
-        rw p.2.0 (All-contains (Step from.state call) states p.0 enough.0 p.1),
+        rw p.2.0 (All-contains (Step from.state call) states p.0 are.0 p.1),
         p.2.1,
         p.2.2,
       ) in
-      elim enough.1 [
+      elim are.2 [
         | inl all ↦
             settles_as _ _ _ _ there
             (λ k p.
@@ -266,7 +266,7 @@ module _ {S : Type 0} (Step : S → ℕ → S → Type 0) (slots : List (Option 
         | inr more ↦ record {
           adds = adds_as _ _ _ _ (λ k p. (p.0, there p.0 p.1, p.2)) g.adds;
           complete = λ few k q. absurd
-              (many_found from slot call states old new more.0 more.1 g few);
+              (many_found from slot call states old new more are.1 g few);
         }
       ]
 
@@ -285,7 +285,8 @@ module _ {S : Type 0} (Step : S → ℕ → S → Type 0) (slots : List (Option 
       → Settles Step slots (IsCopy next) old new
       → Settles Step slots (IsNextAt Step slots from slot) old new
   settles_made from next made slot call old new waits is state set path g =
-      settles_call from _ _ (made.state ∷ []) _ _ waits (is.0.0, inl is.0.1)
+      settles_call from _ _ (made.state ∷ []) _ _ waits
+      (enough _ (made.state ∷ []) (omega arith) is.0)
       (settles_only _ _ _ _ (rw (← state, ← is.2, ← set, ← is.1, ← path) g))
 
   -- one slot more, whose call is made if it waits and is not this one

@@ -1,6 +1,6 @@
 -- Lists: how often a number stands in one, what is true of all pairs, changes index by index, and
 -- orders that are read from links.
-use Rattle.histories.proofs.Words.{[], ◌≤◌, length-append, ◌≡◌, ◌≢◌, ℕ, zero, suc, ◌+◌, ◌<◌, List, ◌∷◌, ◌++◌, length, take, drop, get_or, refl, arith, inl, inr, eq-eqb, split_at, eqb_tells, AllPairs, get_or-append, get_or-append_right, cases_lt, get_or-append-add, slice_set, append-nil, take_all, set, sym, ◌∙◌, ap, Contains, map, get_or-map, cases_eq, Contains-get_or, AreEach, drop_all, get_or-set_other, get_or-set_same, get_or_default, length-set, length-map, Option, None, map-id, take-append-drop, reverse, append_assoc, get_or-append_seam, get_or_past, length-take-le, reverse-append, take_more, Config, Link, Event, IsFollowed, IsFrontier, Path, no_path, order_at, path_more, AreLaid, Grows, IsLaid, IsLaidOut, remove, ◌-◌, cases_order, Front, IsFrontOf, IsFirstOrder, IsOrder}
+use Rattle.histories.proofs.Words.{[], ◌≤◌, length-append, ◌≡◌, ◌≢◌, ℕ, zero, suc, ◌+◌, ◌<◌, List, ◌∷◌, ◌++◌, length, take, drop, get_or, refl, arith, inl, inr, eq-eqb, split_at, eqb_tells, AllPairs, get_or-append, get_or-append_right, cases_lt, get_or-append-add, slice_set, append-nil, take_all, set, sym, ◌∙◌, ap, Contains, map, get_or-map, cases_eq, Contains-get_or, AreEach, drop_all, get_or-set_other, get_or-set_same, get_or_default, length-set, length-map, Option, None, map-id, take-append-drop, reverse, append_assoc, get_or-append_seam, get_or_past, length-take-le, reverse-append, take_more, Config, Link, Event, IsFollowed, IsFrontier, Path, no_path, order_at, path_more, AreLaid, Grows, IsLaid, IsLaidOut, remove, ◌-◌, cases_order, Front, IsFrontOf, IsFirstOrder, IsOrder, AreAll, AreEnough}
 use Rattle.histories.specs.Histories.{times}
 use Rattle.histories.specs.Frontier.{orders, read}
 use Rattle.std.proofs.lemmas.Iterator.Adapters.{YieldsList-from_vec}
@@ -439,3 +439,9 @@ first_explains {S} Step front es olds order f some is =
       followed.from,
       rw (is d) followed.explains,
     )
+
+-- one value, or none, is enough where that is all
+pub enough : {S : Type 0} (Fact : S → Type 0) (xs : List S) → length xs ≤ 1 → AreAll Fact xs
+    → AreEnough Fact xs
+enough Fact xs few all =
+    (all.0, λ i j d less below. absurd (omega (arith, few, less, below)), inl all.1)

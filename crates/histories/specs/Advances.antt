@@ -26,7 +26,7 @@ EndsOpen events event = (call : ℕ) → Ends event call → IsOpen events call
 -- Done, Refused: the configurations are those after one event more; there are some, or none.
 -- ManyConfigs: orders that explain the events before this one, or those up to it, lead to more than
 -- 4,096 configurations.
--- ManyOpen: more than 64 calls are open after this event.
+-- ManyOpen: 65 calls are open after this event.
 -- NoEvent: the call that ends is not open.
 abbrev pub AdvancesIn : {S : Type 0} → (S → ℕ → S → Type 0) → List Event → List S → Event → Front S
     → Advance → Type 0

@@ -1,5 +1,5 @@
 -- The configurations that are followed.
-use Rattle.std.specs.Prelude.{◌≡◌, ℕ, ◌+◌, ◌*◌, ◌^◌, ◌%◌, ◌<◌, ◌≤◌, ◌⊎◌, List, [], ◌∷◌, ◌++◌, length, get_or, AllPairs, Bool, true, false, Option, Some, None, bit_and, bit_or}
+use Rattle.std.specs.Prelude.{◌≡◌, ℕ, ◌+◌, ◌*◌, ◌^◌, ◌%◌, ◌<◌, ◌≤◌, ◌⊎◌, ◌↔◌, List, [], ◌∷◌, ◌++◌, length, get_or, AllPairs, Bool, true, false, Option, Some, None, bit_and, bit_or}
 use Rattle.std.specs.Int.{bit_at, bit_not, w64}
 use Rattle.std.specs.List.{Contains}
 use Rattle.histories.specs.declared.front.Event.{Event}
@@ -172,8 +172,8 @@ HasManyOrders {S} Step events olds =
     × (4096 < length many) × AllPairs (λ a b. ¬ (IsSame a b)) many × IsTable events slots
     × AreSound Step links slots events olds many
 
--- more calls are open than are followed
+-- 65 calls are open, one more than are followed
 abbrev pub HasManyOpen : List Event → Type 0
 HasManyOpen events =
-    (calls : List ℕ) × (64 < length calls) × ((call : ℕ) → times call calls ≤ 1)
-    × ((call : ℕ) → 0 < times call calls → IsOpen events call)
+    (calls : List ℕ) × (length calls ≡ 65) × ((call : ℕ) → times call calls ≤ 1)
+    × ((call : ℕ) → (0 < times call calls) ↔ IsOpen events call)

@@ -8,13 +8,12 @@ use Rattle.histories.specs.declared.front.Event.TheVariants.{Begin, End, Crash}
 abbrev pub AreAll : {S : Type 0} → (S → Type 0) → List S → Type 0
 AreAll {S} Fact values = All Fact values × ((value : S) → Fact value → Contains values value)
 
--- it is true of each value in the list; these are all, or more than configurations are followed,
--- and each is there once
+-- it is true of each value in the list, and each is there once; these are all, or more than
+-- configurations are followed
 abbrev pub AreEnough : {S : Type 0} → (S → Type 0) → List S → Type 0
 AreEnough {S} Fact values =
-    All Fact values
-    × (((value : S) → Fact value → Contains values value)
-    ⊎ ((4096 < length values) × AllPairs (λ a b. a ≢ b) values))
+    All Fact values × AllPairs (λ a b. a ≢ b) values
+    × (((value : S) → Fact value → Contains values value) ⊎ (4096 < length values))
 
 -- how often the number stands in the list
 unfoldable pub times : ℕ → List ℕ → ℕ

@@ -1,6 +1,6 @@
 -- Windows of histories, what is found of a history, which calls are needed for it, and fronts that
 -- go on while replies are still to come.
-use Rattle.std.specs.Prelude.{◌≡◌, ℕ, ◌+◌, ◌<◌, ◌⊎◌, ◌↔◌, List, ◌++◌, get_or, length, take, true, false, Bool, not, filter, map}
+use Rattle.std.specs.Prelude.{◌≡◌, ℕ, ◌+◌, ◌<◌, ◌≤◌, ◌⊎◌, ◌↔◌, List, ◌++◌, get_or, length, take, true, false, Bool, not, filter, map}
 use Rattle.std.specs.List.{Contains}
 use Rattle.histories.specs.declared.front.Event.{Event}
 use Rattle.histories.specs.declared.front.Event.TheVariants.{End, Begin, Crash}
@@ -53,7 +53,7 @@ pub record LeadsTooFar {S : Type 0} (Step : S → ℕ → S → Type 0) (olds : 
 -- An order explains the events before this index. Then at the index:
 -- Refused: a call was answered, and no order explains the events up to it.
 -- ManyConfigs: orders that explain the events before it, or those up to it, lead too far.
--- ManyOpen: more than 64 calls are open.
+-- ManyOpen: 65 calls are open behind it.
 abbrev pub IsStopAt : {S : Type 0} → (S → ℕ → S → Type 0) → List S → List Event → ℕ → Stop → Type 0
 IsStopAt Step olds events index stop.Refused =
     ((call : ℕ) × StandsAt events index (End call))
@@ -68,15 +68,21 @@ pub record IsStop {S : Type 0} (Step : S → ℕ → S → Type 0) (olds : List 
   pub before : IsExplained Step (take index events) olds
   pub at : IsStopAt Step olds events index why
 
+-- a call is open behind each of the events from this index on, up to the last
+abbrev pub IsBusyFrom : ℕ → List Event → Type 0
+IsBusyFrom begin events =
+    (at : ℕ) → begin < at → at ≤ length events → ¬ (IsQuiet (take at events))
+
 -- Explained: some order explains the history; with the window that it ends in.
 -- Refused, ManyConfigs, ManyOpen: an order explains the events before this index, and it is refused
--- or not decided there; with the window that they end in.
+-- or not decided there; with the window that they end in, which begins where no call was open last.
 abbrev pub IsVerdict : {S : Type 0} → (S → ℕ → S → Type 0) → List S → List Event → Verdict S
     → Type 0
 IsVerdict Step olds events (verdict.Explained window) =
     IsExplained Step events olds × IsWindowOf Step olds events window
 IsVerdict Step olds events (verdict.Refused index window) =
     IsStop Step olds events index stop.Refused × IsWindowOf Step olds (take index events) window
+    × IsBusyFrom window.begin (take index events)
 IsVerdict Step olds events (verdict.ManyConfigs index) =
     IsStop Step olds events index stop.ManyConfigs
 IsVerdict Step olds events (verdict.ManyOpen index) =

@@ -2,7 +2,7 @@
 ghost use Rattle.std.specs.Prelude.{◌≡◌, ◌<◌, IfErr, IfOk, OnOk, length, []};
 ghost use Rattle.histories.specs.Frontier.{IsFrontOf};
 ghost use Rattle.histories.specs.Histories.{IsExplained, IsHistory};
-ghost use Rattle.histories.specs.Windows.{CutsAt, GoesOn, HasPast, IsFrontAfter, IsMadeNext, IsStop, IsWindowOf};
+ghost use Rattle.histories.specs.Windows.{CutsAt, GoesOn, HasPast, IsBusyFrom, IsFrontAfter, IsMadeNext, IsStop, IsWindowOf};
 
 use super::front::{Advance, Event, Front};
 use super::gather::start;
@@ -59,6 +59,8 @@ pub(super) fn follow<M: Machine>(
     requires history { IsHistory events.now }
     ensures all { IfOk result (λ end. IfOk end
         (IsWindowOf (M.Step machine.now) states.now events.now)) }
+    ensures latest { cut ≡ Cut.WhereQuiet → IfOk result (λ end. IfOk end
+        (λ window. IsBusyFrom window.begin events.now)) }
     ensures whole { cut ≡ Cut.Never → IfOk result (λ end. IfOk end
         (λ window. IsFrontOf (M.Step machine.now) window.front events.now states.now)) }
     ensures explained { IfOk result (λ end. OnOk end

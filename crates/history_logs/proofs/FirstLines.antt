@@ -341,6 +341,7 @@ refusal_at text services reported line is =
         command = own.command;
         window = own.window;
         is_window = own.is_window;
+        latest = own.latest;
         begins = own.begins;
         needed = own.needed;
         configurations = own.configurations;

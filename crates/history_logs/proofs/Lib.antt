@@ -19,7 +19,7 @@ pub mod Shortened
 pub mod Settled
 pub mod Conforming
 pub mod FirstLines
-pub mod OneLine
+pub mod OneReply
 pub mod SameSeen
 pub mod SameSteps
 pub mod Readings

@@ -6,7 +6,7 @@ use Rattle.history_logs.specs.Logs.{HasGood}
 use Rattle.history_logs.specs.Reading.{HasRead}
 use Rattle.history_logs.specs.Reading.HasRead.{line, note, nothing}
 use Rattle.history_logs.specs.SameLogs.{IsSameLog}
-use Rattle.history_logs.proofs.OneLine.{same_line}
+use Rattle.log_lines.proofs.OneLine.{same_line}
 use Rattle.history_logs.proofs.FirstLines.{behind}
 use Rattle.history_logs.proofs.Kept.{kept_read}
 use Rattle.history_logs.proofs.SameSteps.{step_same, step_too}

@@ -1,6 +1,6 @@
 -- What is reported of a reply that is refused, and of configurations. A weak listing can always
 -- start, so none is refused.
-use Rattle.history_logs.proofs.Words.{All-push, AllZip, Answers, AreLines, AreLinesTo, AreNeededLines, Begin, Bool, Contains, Contains-append_left, Contains-push, Crash, End, Event, HasEventLines, HasSlot, IsCommandOf, IsExplained, IsLine, IsLineAt, IsOpen, IsOrderly, IsRefusedIn, IsReported, IsSaidIn, IsStop, IsTrue, IsWindowOf, Judged, Line, List, None, Option, Part, Refusal, Service, Some, StandsAt, StepOf, Watched, Window, [], all_pairs_push, ap, arith, begins, begins-append, cases_lt, drop, false, get_or, get_or_from_slice_get, inl, inr, length, length-append, length-take-le, line_text, listed, news, one_more, refl, same_Some, slice_get, slice_get_read, slice_get_within, starts, stops, subst, sym, take, take-append-drop, take_more, times_one, ℕ, ◌++◌, ◌+◌, ◌<◌, ◌∙◌, ◌∷◌, ◌≡◌, ◌≤◌, ◌⊎◌}
+use Rattle.history_logs.proofs.Words.{All-push, AllZip, Answers, AreLines, AreLinesTo, AreNeededLines, Begin, Bool, Contains, Contains-append_left, Contains-push, Crash, End, Event, HasEventLines, HasSlot, IsCommandOf, IsExplained, IsLine, IsLineAt, IsOpen, IsOrderly, IsRefusedIn, IsReported, IsSaidIn, IsStop, IsTrue, IsBusyFrom, IsWindowOf, Judged, Line, List, None, Option, Part, Refusal, Service, Some, StandsAt, StepOf, Watched, Window, [], all_pairs_push, ap, arith, begins, begins-append, cases_lt, drop, false, get_or, get_or_from_slice_get, inl, inr, length, length-append, length-take-le, line_text, listed, news, one_more, refl, same_Some, slice_get, slice_get_read, slice_get_within, starts, stops, subst, sym, take, take-append-drop, take_more, times_one, ℕ, ◌++◌, ◌+◌, ◌<◌, ◌∙◌, ◌∷◌, ◌≡◌, ◌≤◌, ◌⊎◌}
 use Rattle.histories.specs.Histories.{Explains, IsOver, times}
 use Rattle.histories.proofs.Lists.{times-append, times_same}
 use Rattle.histories.proofs.Events.{over_ended}
@@ -149,13 +149,14 @@ module _ (s : Service) (o : IsOrderly s) where
             → ((k : ℕ) (text : List ℕ) → IsCommandOf bytes begin k text
             → (reported.call ≡ k) × (reported.command.items ≡ text))
             → IsStop (StepOf s) (news s) s.events index stop.Refused
+            → IsBusyFrom w.begin (take index s.events)
             → slice_get s.event_lines w.begin ≡ Some reported.window
             → AreNeededLines s w.begin index call reported.needed.items
             → ((c : Judged) → slice_get s.calls call ≡ Some c
             → AllZip (IsReported s c w.front.slots.items) w.front.configs.items
             reported.configurations.items)
             → IsRefusedIn bytes s line reported
-        refused_in begin begun reported own said found stop_is opened needed tells =
+        refused_in begin begun reported own said found stop_is latest opened needed tells =
             let a = lines.answers index call line ended at in
             let b = says_of bytes s index call line a.0 o stop_is ended a.1 a.2 in
             let has = rw (get_or_from_slice_get s.begins call begin 0 begun)
@@ -176,6 +177,7 @@ module _ (s : Service) (o : IsOrderly s) where
                 command = rw (its.0, its.1) has.2;
                 window = w;
                 is_window = is;
+                latest = latest;
                 begins = opened;
                 needed = needed;
                 configurations = tells a.0 a.1;

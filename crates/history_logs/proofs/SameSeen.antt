@@ -17,13 +17,13 @@ use Rattle.service_conformance.specs.Seen.{list_words, seen_text}
 use Rattle.service_conformance.specs.Sides.{HasPart, LacksPart}
 use Rattle.service_descriptions.specs.declared.replay.machine.command.Command.{Command}
 use Rattle.service_descriptions.specs.declared.replay.machine.command.Command.TheVariants as script
-use Rattle.history_logs.specs.SameLogs.{IsSameCall, IsSameCommand, IsSameReply, IsSameService}
+use Rattle.history_logs.specs.SameLogs.{IsSameCall, IsSameReply, IsSameService}
 use Rattle.history_logs.specs.SameLogs.IsSameCall.{other_dead, other_stop, own_call}
-use Rattle.history_logs.specs.SameLogs.IsSameCommand.{other_kept, own_command}
+use Rattle.log_lines.specs.Laws.{IsSameBegun, IsSameCommand}
+use Rattle.log_lines.specs.Laws.IsSameCommand.{other_kept, own_command}
 use Rattle.history_logs.specs.SameLogs.IsSameReply.{other_ids, own_reply}
 use Rattle.history_logs.specs.Seen.{handle_named}
-use Rattle.history_logs.proofs.OneLine.{IsSameBegun}
-use Rattle.history_logs.proofs.OneLine.IsSameBegun.{other_begun, own_begun}
+use Rattle.log_lines.specs.Laws.IsSameBegun.{other_begun, own_begun}
 
 -- lists whose elements go together
 module _ {X : Type 0} (R : X → X → Type 0) where

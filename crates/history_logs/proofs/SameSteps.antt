@@ -11,14 +11,15 @@ use Rattle.service_conformance.specs.Sides.{ports_at}
 use Rattle.service_conformance.proofs.Taking.{one_side}
 use Rattle.service_descriptions.specs.declared.replay.machine.command.Command.TheVariants as script
 use Rattle.history_logs.specs.declared.logs.callers.CallerState.TheVariants as caller
-use Rattle.history_logs.specs.SameLogs.{IsSameCommand, IsSameLog, IsSameService, IsSameWait}
-use Rattle.history_logs.specs.SameLogs.IsSameCommand.{own_command}
+use Rattle.history_logs.specs.SameLogs.{IsSameLog, IsSameService, IsSameWait}
+use Rattle.log_lines.specs.Laws.{IsSameBegun, IsSameCommand, IsSameLine}
+use Rattle.log_lines.specs.Laws.IsSameCommand.{own_command}
 use Rattle.history_logs.specs.SameLogs.IsSameReply.{own_reply}
 use Rattle.history_logs.proofs.Kept.{cases_name}
 use Rattle.history_logs.proofs.Named.{one_index, one_named}
-use Rattle.history_logs.proofs.OneLine.{IsSameBegun, IsSameLine, same_says}
-use Rattle.history_logs.proofs.OneLine.IsSameBegun.{own_begun}
-use Rattle.history_logs.proofs.OneLine.IsSameLine.{other_begin, other_call, own_line}
+use Rattle.history_logs.proofs.OneReply.{same_says}
+use Rattle.log_lines.specs.Laws.IsSameBegun.{own_begun}
+use Rattle.log_lines.specs.Laws.IsSameLine.{other_begin, other_call, own_line}
 use Rattle.history_logs.proofs.SameSeen.{begins_too, own_service, same_alone, same_begins, same_called, same_crash, same_end, same_none, same_service_start, same_some, same_started, zip_at, zip_set}
 use Rattle.history_logs.proofs.Together.{AreTogether, Keeps, goes_too, named_too}
 

@@ -24,7 +24,7 @@ pub use Rattle.history_logs.specs.declared.logs.verdict.Expected.{Expected}
 pub use Rattle.history_logs.specs.declared.logs.verdict.Refusal.{Refusal}
 pub use Rattle.history_logs.specs.declared.logs.verdict.Verdict.{Verdict}
 pub use Rattle.history_logs.specs.declared.logs.verdict.Verdict.TheVariants.{Conforms, ManyConfigs, ManyOpen, Refused}
-pub use Rattle.histories.specs.Windows.{IsFrontAfter, IsStop, IsWindowOf, events_of, is_kept}
+pub use Rattle.histories.specs.Windows.{IsBusyFrom, IsFrontAfter, IsStop, IsWindowOf, events_of, is_kept}
 pub use Rattle.histories.specs.declared.window.Stop.{Stop}
 pub use Rattle.histories.specs.declared.window.Window.{Window}
 pub use Rattle.iox2_container.proofs.Lists.{get_set_other}

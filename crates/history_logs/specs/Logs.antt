@@ -11,7 +11,7 @@ use Rattle.histories.specs.Histories.{IsExplained, StandsAt}
 use Rattle.histories.specs.declared.window.Stop.{Stop}
 use Rattle.histories.specs.declared.window.Stop.TheVariants as stop
 use Rattle.histories.specs.declared.window.Window.{Window}
-use Rattle.histories.specs.Windows.{AreNeeded, IsStop, IsWindowOf, events_of}
+use Rattle.histories.specs.Windows.{AreNeeded, IsBusyFrom, IsStop, IsWindowOf, events_of}
 use Rattle.iox2_container.specs.Steps.{listed}
 use Rattle.line_streams.specs.Spelling.{HasNo}
 use Rattle.log_lines.specs.declared.form.LogForm.{LogForm}
@@ -156,8 +156,8 @@ pub record AreNeededLines (s : Service) (begin index refused : ℕ) (lines : Lis
 
 -- What is reported of the reply in the event of this index of the service, which no order explains:
 -- its words; the line and the text of the command of its call; the line in which the window begins,
--- and the lines of the calls that are needed; and each configuration to which what is above it
--- leads.
+-- with the first event since no call was open, and the lines of the calls that are needed; and each
+-- configuration to which what is above it leads.
 pub record IsRefusalOf (bytes : List ℕ) (s : Service) (index : ℕ) (reported : Refusal) : Type 0
   where
     pub number : ℕ
@@ -170,6 +170,7 @@ pub record IsRefusalOf (bytes : List ℕ) (s : Service) (index : ℕ) (reported 
     pub command : IsCommandOf bytes begin reported.call reported.command.items
     pub window : Window Watched
     pub is_window : IsWindowOf (StepOf s) (news s) (take index s.events) window
+    pub latest : IsBusyFrom window.begin (take index s.events)
     pub begins : slice_get s.event_lines window.begin ≡ Some reported.window
     pub needed : AreNeededLines s window.begin index number reported.needed.items
     pub configurations : AllZip (IsReported s call window.front.slots.items)

@@ -4,27 +4,14 @@ use Rattle.std.specs.Global.{Vec}
 use Rattle.std.specs.List.{AllZip}
 use Rattle.iox2_container.specs.State.{Handle}
 use Rattle.log_lines.specs.Commands.{NamedCommand}
-use Rattle.log_lines.specs.Commands.NamedCommand.{numbered}
+use Rattle.log_lines.specs.Laws.{IsSameCommand, dead}
 use Rattle.service_conformance.specs.declared.conformance.seen_reply.SeenReply.{SeenReply}
 use Rattle.service_conformance.specs.declared.conformance.seen_reply.SeenReply.TheVariants as seen
 use Rattle.service_conformance.specs.Calls.{Call}
 use Rattle.service_conformance.specs.Judged.{Judged}
 use Rattle.service_conformance.specs.Judged.Judged.{call, stops}
-use Rattle.service_descriptions.specs.declared.replay.machine.command.Cleanup.TheVariants.{ByPort}
-use Rattle.service_descriptions.specs.declared.replay.machine.command.Command.{Command}
-use Rattle.service_descriptions.specs.declared.replay.machine.command.Command.TheVariants as command
 use Rattle.history_logs.specs.Reading.{Log}
 use Rattle.history_logs.specs.Seen.{Service}
-
--- the command that removes a dead node, and lets these ports stay
-abbrev pub dead : ℕ → Vec ℕ → Command
-dead node kept = command.Dead node (ByPort kept)
-
--- the same command, or one with the same list in other memory
-pub data IsSameCommand : NamedCommand → NamedCommand → Type 0 where
-  own_command : (c : NamedCommand) → IsSameCommand c c
-  other_kept : (node : ℕ) (kept other : Vec ℕ) → kept.items ≡ other.items
-      → IsSameCommand (numbered (dead node kept)) (numbered (dead node other))
 
 -- the same reply, or one with the same list in other memory
 pub data IsSameReply : SeenReply → SeenReply → Type 0 where

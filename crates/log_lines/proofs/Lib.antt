@@ -3,5 +3,6 @@ pub mod Names
 pub mod Splits
 pub mod States
 pub mod OneReading
+pub mod OneLine
 pub mod Parts
 pub mod Forms

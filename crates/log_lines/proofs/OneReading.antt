@@ -1,4 +1,4 @@
--- Lines are read in one way.
+-- Lines with one text are alike, but for the command of a call, and notes are no lines.
 use Rattle.std.proofs.Common.{◌≡◌, ◌≢◌, ℕ, ◌<◌, ◌^◌, List, [], ◌∷◌, ◌++◌, Some, None, codes, length, refl, sym, ◌∙◌, ap, subst, arith}
 use Rattle.std.specs.Prelude.{◌==◌, IsTrue}
 use Rattle.std.specs.Char.{is_ascii_alphanumeric}
@@ -13,7 +13,7 @@ use Rattle.service_descriptions.specs.Lines.{HasLine, line_of}
 use Rattle.service_descriptions.proofs.Scripts.{one_service}
 use Rattle.log_lines.specs.Commands.{Begun, HasText, NamedCommand, command_text}
 use Rattle.log_lines.specs.Commands.NamedCommand.{numbered, deregister, release}
-use Rattle.log_lines.specs.Laws.{IsAlike, LinesAreReadOneWay, NotesAreNoLines}
+use Rattle.log_lines.specs.Laws.{IsAlike, NotesAreNoLines}
 use Rattle.log_lines.specs.Lines.{Comes, HasNone, IsCaller, IsLine, Line, begin_text, given_text, is_note, line_text, number_text}
 use Rattle.log_lines.specs.Lines.Line.{service, call, reply, begin, end, crash, given}
 use Rattle.log_lines.proofs.Names.{first_letter}
@@ -73,7 +73,7 @@ same_kind (given None s) (reply w) p q e k = absurd (omega arith)
 same_kind (reply w) (given None s) p q e k = absurd (omega arith)
 same_kind _ _ p q e k = absurd (omega (arith, kind_call, kind_begin, kind_given))
 
-pub one_way : LinesAreReadOneWay
+pub one_way : (a b : Line) → IsLine a → IsLine b → line_text a ≡ line_text b → IsAlike a b
 one_way a b p q e = same_kind a b p q e (one_kind _ _ (of_line a p) (of_line b q) e)
 
 -- after a number only a call follows, alone or begun, or what is given

@@ -1,8 +1,8 @@
 //! What holds of all lines.
 ghost use Rattle.log_lines.specs.Laws.{LinesAreReadOneWay, LinesHaveForms, NotesAreNoLines};
 
-/// No two lines have one text, but for the command of a call.
-#[tactic(auto, using(crate::proofs::OneReading::one_way))]
+/// No two lines have one text, but for the memory of the list in a command.
+#[tactic(auto, using(crate::proofs::OneLine::same_line))]
 pub fn lines_are_read_one_way()
     ensures { LinesAreReadOneWay }
 {}

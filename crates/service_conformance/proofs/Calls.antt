@@ -76,14 +76,10 @@ pub all_as : {S : Type 0} (Fact Other : S → Type 0) (xs : List S) → ((x : S)
 all_as Fact Other xs there back all =
     (All-weaker Fact Other there xs all.0, λ x o. all.1 x (back x o))
 
--- all are enough
-pub enough : {S : Type 0} (Fact : S → Type 0) (xs : List S) → AreAll Fact xs → AreEnough Fact xs
-enough Fact xs all = (all.0, inl all.1)
-
 pub enough_as : {S : Type 0} (Fact Other : S → Type 0) (xs : List S)
     → ((x : S) → Fact x → Other x) → ((x : S) → Other x → Fact x) → AreEnough Fact xs
     → AreEnough Other xs
-enough_as Fact Other xs there back enough = grind (arith, All-weaker, enough)
+enough_as Fact Other xs there back is = grind (arith, All-weaker, is)
 
 all_and_one : {S : Type 0} (Fact Other : S → Type 0) (xs : List S) (x : S)
     → ((y : S) → Fact y → Other y) → Other x → ((y : S) → Other y → Fact y ⊎ (y ≡ x))
@@ -217,18 +213,20 @@ module _ (call : Call) (s : Service) where
           → (limit : ℕ) → ((h : Handle) → MayGiveIn s p h → h.slot < limit) → (xs : List Service)
           → AreGivenBelow call s p limit xs → AreEnough (CallStep call s) xs
       all_given all limit below xs given =
-          enough (CallStep call s) xs
-          (all_as (GivesBelow call s p limit) (CallStep call s) xs (given_step limit)
+          let are =
+          all_as (GivesBelow call s p limit) (CallStep call s) xs (given_step limit)
           (λ x step.
           let on = step.2.2 in
           let a = all.only step.2.0 on.0 on.1 on.2 in
-          (a.0, a.2, below a.0 a.2, subst (λ q. LeadsOn call s q x) a.1 on)) given.0)
+          (a.0, a.2, below a.0 a.2, subst (λ q. LeadsOn call s q x) a.1 on)) given.0 in
+          (are.0, given.1, inl are.1)
 
       pub many_given : (limit : ℕ) (xs : List Service) → AreGivenBelow call s p limit xs
           → 4096 < length xs → AreEnough (CallStep call s) xs
       many_given limit xs given many = (
         All-weaker (GivesBelow call s p limit) (CallStep call s) (given_step limit) xs given.0.0,
-        inr (many, given.1),
+        given.1,
+        inr many,
       )
 
 module _ (call : Call) (seen : SeenReply) (has : call.words ≡ Some (seen_text seen))

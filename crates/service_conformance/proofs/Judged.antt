@@ -1,9 +1,9 @@
 -- What is judged leads from one state to another.
 use Rattle.service_conformance.proofs.Names.{All-map, All-weaker, AllocError, Bool, Contains, Err, IfOk, List, Ok, Result, [], ap, arith, false, length, map, refl, slice_get, slice_get_within, subst, sym, true, ℕ, ◌+◌, ◌<◌, ◌==◌, ◌↔◌, ◌∙◌, ◌∷◌, ◌≡◌, eqb-true, nil_from_length, same_Some, IfOk-weaker, All, AllPairs, ◌≢◌, get_or, inl, inr, length-map, AreAll, Call, CallLeaves, CallStep, ChangesNothing, HasNumber, IsIdle, IsIdleCall, IsIdleJudged, IsMade, IsWatched, IsWithin, Judged, JudgedStep, LacksNumber, Left, Look, Service, Watched, WindowStep, states_in, watched, AreEnough}
 use Rattle.std.proofs.Math.ListN.{get_or-map}
-use Rattle.histories.proofs.Lists.{contains_map_of}
+use Rattle.histories.proofs.Lists.{contains_map_of, enough}
 use Rattle.std.proofs.lemmas.List.{get_or_default}
-use Rattle.service_conformance.proofs.Calls.{all_as, all_of_none, enough, enough_as}
+use Rattle.service_conformance.proofs.Calls.{all_as, all_of_none, enough_as}
 
 -- the call leaves these, and the weak listings look at them
 module _ (c : Call) (w : Watched) (is : IsWatched w) (xs : List Service) where
@@ -41,11 +41,12 @@ module _ (c : Call) (w : Watched) (is : IsWatched w) (xs : List Service) where
 
   enough_leaves : AreEnough (CallStep c w.service) xs
       → AreEnough (CallLeaves c w) (map (λ s. watched s w.looks) xs)
-  enough_leaves enough = (
-    each_leaves enough.0,
-    elim enough.1 [
+  enough_leaves are = (
+    each_leaves are.0,
+    differ_watched are.1,
+    elim are.2 [
       | inl all ↦ inl (has_leaves all)
-      | inr many ↦ grind (arith, length-map, differ_watched)
+      | inr many ↦ inr (omega (arith, many, length-map xs (λ s. watched s w.looks)))
     ],
   )
 
@@ -53,9 +54,9 @@ module _ (c : Call) (w : Watched) (is : IsWatched w) (xs : List Service) where
 pub follow_leaves : (c : Call) (w : Watched) → IsWatched w → (s : Service) → s ≡ w.service
     → (xs : List Service) → AreEnough (CallStep c s) xs → (ys : List Watched)
     → ys ≡ map (λ s. watched s w.looks) xs → AreEnough (CallLeaves c w) ys
-follow_leaves c w is s same xs enough ys they =
+follow_leaves c w is s same xs are ys they =
     subst (λ (l : List Watched). AreEnough (CallLeaves c w) l) (sym they)
-    (enough_leaves c w is xs (subst (λ (x : Service). AreEnough (CallStep c x) xs) same enough))
+    (enough_leaves c w is xs (subst (λ (x : Service). AreEnough (CallStep c x) xs) same are))
 
 -- a call that is made where no weak listing looks
 pub made_leaves : (c : Call) (w : Watched) (made : Result Bool AllocError) (s : Service)
@@ -119,7 +120,7 @@ module _ (first : ℕ) (calls : List Judged) (number : ℕ) where
   pub window_none : LacksNumber first calls number → (s : Watched)
       → AreEnough (λ new. WindowStep first calls s number new) []
   window_none lacks s =
-      enough (λ new. WindowStep first calls s number new) []
+      enough (λ new. WindowStep first calls s number new) [] (omega arith)
       (all_of_none (λ new. WindowStep first calls s number new) (λ x step. lacks step.0 step.1))
 
 pub windows_agree : (first : ℕ) (calls all : List Judged)

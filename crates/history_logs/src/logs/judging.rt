@@ -6,7 +6,7 @@ ghost use Rattle.std.specs.List.{AllZip};
 ghost use Rattle.histories.specs.declared.window.Stop.TheVariants as stop;
 ghost use Rattle.histories.specs.declared.front.Event.TheVariants as event;
 ghost use Rattle.histories.specs.Histories.{StandsAt};
-ghost use Rattle.histories.specs.Windows.{IsStop, IsVerdict, IsWindowOf};
+ghost use Rattle.histories.specs.Windows.{IsBusyFrom, IsStop, IsVerdict, IsWindowOf};
 ghost use Rattle.log_lines.specs.Lines.{IsLine, Line, line_seen, line_text};
 ghost use Rattle.service_conformance.specs.Judged.{Judged};
 ghost use Rattle.history_logs.specs.Good.{IsOrderly};
@@ -241,6 +241,7 @@ fn refused(
         stop.Refused }
     requires window { IsWindowOf (StepOf service.now) (news service.now)
         (take index service.now.events) window.now }
+    requires latest { IsBusyFrom window.now.begin (take index service.now.events) }
     ensures { IfOk result (λ reported.
         IsRefusedIn log.now service.now reported.reply reported) }
 {

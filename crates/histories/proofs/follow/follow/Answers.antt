@@ -1,5 +1,5 @@
 use Rattle.histories.specs.declared.front.Advance.TheVariants as advance
-use Rattle.histories.proofs.Following.{follows_alone, follows_begin, follows_done, follows_end, follows_whole, goes_explained, stopped}
+use Rattle.histories.proofs.Following.{follows_alone, follows_begin, follows_done, follows_end, goes_explained, stopped}
 use Rattle.histories.proofs.follow.follow.Goals as goal
 
 pub loop-at-init : goal.loop-at-init
@@ -43,9 +43,13 @@ unreachable-requires g c =
 pub returns-clause-all : goal.returns-clause-all
 returns-clause-all g c = (follows_end _ _ _ _ _ _ c.loop-at-test.false c.loop-at.invariant).goes.is
 
+pub returns-clause-latest : goal.returns-clause-latest
+returns-clause-latest g c =
+    (follows_end _ _ _ _ _ _ c.loop-at-test.false c.loop-at.invariant).latest
+
 pub returns-clause-whole : goal.returns-clause-whole
 returns-clause-whole g c =
-    follows_whole _ _ _ _ _ (follows_end _ _ _ _ _ _ c.loop-at-test.false c.loop-at.invariant)
+    (follows_end _ _ _ _ _ _ c.loop-at-test.false c.loop-at.invariant).whole
 
 pub returns-clause-explained : goal.returns-clause-explained
 returns-clause-explained g c =

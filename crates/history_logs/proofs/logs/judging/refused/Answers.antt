@@ -42,6 +42,6 @@ returns c =
     (λ k text is.
     let found = c.command_of-call.ensures k text is in
     (found.0, c.in_ok-command.ensures.items ∙ found.1))
-    c.requires.stops c.line_at.ensures c.in_ok-needed.ensures
+    c.requires.stops c.requires.latest c.line_at.ensures c.in_ok-needed.ensures
     (λ x at.
     rw (c.deref.ensures.value, c.deref-2.ensures.value) at (c.in_ok-configurations.ensures x at))

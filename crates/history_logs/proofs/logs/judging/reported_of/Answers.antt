@@ -11,6 +11,7 @@ refused-requires c =
       located = c.requires.located;
       stops = found.0;
       window = found.1;
+      latest = found.2;
     }
 
 pub line_at-line-requires : goal.line_at-line-requires

@@ -1,37 +1,28 @@
--- Lines, and replies, with one text are the same, but for the memory of a list.
-use Rattle.history_logs.proofs.Words.{Begun, IsAlike, IsLine, Line, List, NamedCommand, None, Option, Says, SeenReply, [], ap, arith, begin, call, codes, command, crash, decimal, end, get_or, given, line_text, numbered, one_way, refl, reply, service, subst, sym, weak, ℕ, ◌++◌, ◌<◌, ◌∙◌, ◌≡◌, ◌≢◌}
+-- Lines with one text are the same, but for the memory of a list.
+use Rattle.std.proofs.Common.{◌≡◌, ◌≢◌, ℕ, ◌<◌, List, [], ◌++◌, Option, None, Some, codes, decimal, get_or, refl, sym, ◌∙◌, ap, subst, arith}
 use Rattle.std.specs.Prelude.{◌==◌, ◌^◌, if◌then◌else◌}
-use Rattle.std.specs.Global.{Vec}
 use Rattle.std.proofs.lemmas.Fmt.{decimal_injective}
 use Rattle.std.proofs.lemmas.List.{append-nil, append_assoc, append_cancel_left}
 use Rattle.iox2_container.specs.declared.container.handle.Role.{Role}
 use Rattle.iox2_container.specs.declared.container.handle.Role.TheVariants as role
 use Rattle.line_streams.specs.Numerals.{cons_same, decimal_first, same_number}
-use Rattle.line_streams.specs.OneWay.{listed_one}
 use Rattle.line_streams.specs.Spelling.{IsDigit}
-use Rattle.log_lines.specs.Commands.{HasBegun, HasText, IsHandle, begun_text, command_text, handle_text, weak_text}
-use Rattle.log_lines.specs.Commands.NamedCommand.{deregister, release}
-use Rattle.log_lines.specs.Lines.{begin_text, name_text}
-use Rattle.service_conformance.proofs.Seen.{is_named, listed_fit, listed_is, no_handle_text, same_count}
-use Rattle.service_conformance.specs.declared.conformance.seen_reply.ReplyWord.{ReplyWord}
-use Rattle.service_conformance.specs.declared.conformance.seen_reply.ReplyWord.TheVariants as word
-use Rattle.service_conformance.specs.declared.conformance.seen_reply.SeenReply.TheVariants as seen
-use Rattle.service_conformance.specs.IdWords.{printed_one}
-use Rattle.service_conformance.specs.Possible.{reply_named}
-use Rattle.service_conformance.specs.Seen.{IsSeen, seen_text, word_text}
-use Rattle.service_conformance.specs.Words.{handle_words}
-use Rattle.service_descriptions.specs.Steps.{handle_in}
-use Rattle.service_descriptions.specs.declared.replay.machine.reply.Reply.{Reply}
-use Rattle.service_descriptions.specs.declared.replay.machine.reply.Reply.TheVariants as replied
 use Rattle.service_descriptions.specs.declared.replay.machine.command.Cleanup.TheVariants.{ByPort}
 use Rattle.service_descriptions.specs.declared.replay.machine.command.Command.{Command}
 use Rattle.service_descriptions.specs.declared.replay.machine.command.Command.TheVariants as script
 use Rattle.service_descriptions.specs.Lines.{HasLine, SameCommand, line_of, role_word}
 use Rattle.service_descriptions.specs.Phrases.{role_one}
 use Rattle.service_descriptions.proofs.Scripts.{one_command}
-use Rattle.history_logs.specs.SameLogs.{IsSameCommand, IsSameReply, dead}
-use Rattle.history_logs.specs.SameLogs.IsSameCommand.{other_kept, own_command}
-use Rattle.history_logs.specs.SameLogs.IsSameReply.{other_ids, own_reply}
+use Rattle.log_lines.specs.Commands.{Begun, HasBegun, HasText, IsHandle, NamedCommand, begun_text, command_text, handle_text, weak_text}
+use Rattle.log_lines.specs.Commands.Begun.{command, weak}
+use Rattle.log_lines.specs.Commands.NamedCommand.{numbered, deregister, release}
+use Rattle.log_lines.specs.Laws.{IsAlike, IsSameBegun, IsSameCommand, IsSameLine, LinesAreReadOneWay, dead}
+use Rattle.log_lines.specs.Laws.IsSameBegun.{other_begun, own_begun}
+use Rattle.log_lines.specs.Laws.IsSameCommand.{other_kept, own_command}
+use Rattle.log_lines.specs.Laws.IsSameLine.{other_begin, other_call, own_line}
+use Rattle.log_lines.specs.Lines.{IsLine, Line, begin_text, line_text, name_text}
+use Rattle.log_lines.specs.Lines.Line.{service, call, reply, begin, end, crash, given}
+use Rattle.log_lines.proofs.OneReading.{one_way}
 
 same_numbered : (c d : Command) → SameCommand c d → IsSameCommand (numbered c) (numbered d)
 same_numbered (script.Dead a (ByPort kept)) (script.Dead b (ByPort other)) e =
@@ -41,7 +32,7 @@ same_numbered c d e =
     subst (λ (x : Command). IsSameCommand (numbered c) (numbered x)) e (own_command (numbered c))
 
 -- the first letters tell apart
-letters : (xs ys : List ℕ) → xs ≡ ys
+pub letters : (xs ys : List ℕ) → xs ≡ ys
     → (get_or xs 0 0 ≡ get_or ys 0 0) × (get_or xs 2 0 ≡ get_or ys 2 0)
     × (get_or xs 4 0 ≡ get_or ys 4 0) × (get_or xs 5 0 ≡ get_or ys 5 0)
 letters xs ys e = (
@@ -52,7 +43,7 @@ letters xs ys e = (
 )
 
 -- a number and a number
-handle_same : (a b c d : ℕ) → IsHandle (a, b) → IsHandle (c, d)
+pub handle_same : (a b c d : ℕ) → IsHandle (a, b) → IsHandle (c, d)
     → handle_text (a, b) ≡ handle_text (c, d) → (a ≡ c) × (b ≡ d)
 handle_same a b c d p q e =
     let first =
@@ -161,25 +152,12 @@ one_weak r s e =
     (role_one.same (r, []) (s, []) (λ n. absurd (cc)) (λ n. absurd (cc))
     (append_cancel_left (codes "list? ") _ _ e)).0
 
--- what a caller begins, or what has the same list in other memory
-pub data IsSameBegun : Begun → Begun → Type 0 where
-  own_begun : (b : Begun) → IsSameBegun b b
-  other_begun : (c d : NamedCommand) → IsSameCommand c d → IsSameBegun (command c) (command d)
-
 same_begun : (b c : Begun) → HasBegun b → HasBegun c → begun_text b ≡ begun_text c
     → IsSameBegun b c
 same_begun (command c) (command d) p q e = other_begun c d (same_text c d p q e)
 same_begun (command c) (weak r) p q e = absurd (no_weak c r p e)
 same_begun (weak r) (command c) p q e = absurd (no_weak c r q (sym e))
 same_begun (weak r) (weak s) p q e = rw (one_weak r s e) (own_begun (weak s))
-
--- the line, or one that has the same list in other memory
-pub data IsSameLine : Line → Line → Type 0 where
-  own_line : (l : Line) → IsSameLine l l
-  other_call : (number : Option ℕ) (c d : NamedCommand) → IsSameCommand c d
-      → IsSameLine (call number c) (call number d)
-  other_begin : (number : Option ℕ) (name : List ℕ) (b c : Begun) → IsSameBegun b c
-      → IsSameLine (begin number name b) (begin number name c)
 
 behind : (m n : Option ℕ) (x y : List ℕ) → m ≡ n → name_text m ++ x ≡ name_text n ++ y → x ≡ y
 behind m n x y same e =
@@ -204,83 +182,5 @@ alike_line (crash a) (crash b) p q e same = rw same (own_line (crash b))
 alike_line (given m s) (given n t) p q e same = rw (same.0, same.1) (own_line (given n t))
 alike_line _ _ p q e same = absurd same
 
--- lines with one text
-pub same_line : (a b : Line) → IsLine a → IsLine b → line_text a ≡ line_text b → IsSameLine a b
+pub same_line : LinesAreReadOneWay
 same_line a b p q e = alike_line a b p q e (one_way a b p q e)
-
--- the reply without numbers
-abbrev word_in : Reply → ReplyWord
-word_in replied.Locked = word.Locked
-word_in replied.Full = word.Full
-word_in replied.NotRegistered = word.NotRegistered
-word_in replied.HasOwners = word.HasOwners
-word_in replied.NoMoreOwners = word.NoMoreOwners
-word_in replied.PortsAttached = word.PortsAttached
-word_in replied.Released = word.Released
-word_in replied.NotOwned = word.NotOwned
-word_in replied.NoHandle = word.NoHandle
-word_in _ = word.WrongPattern
-
-its_word : (w : ReplyWord) → word_in (reply_named w) ≡ w
-its_word word.Locked = refl
-its_word _ = refl
-
-one_word : (v w : ReplyWord) → word_text v ≡ word_text w → v ≡ w
-one_word v w e = sym (its_word v) ∙ (ap word_in (is_named (reply_named v) w e) ∙ its_word w)
-
-no_handle : (w : ReplyWord) (slot ticket : ℕ) → word_text w ≢ handle_words slot ticket
-no_handle w = no_handle_text (reply_named w) (none w)
-  where
-    none : (v : ReplyWord) → handle_in (reply_named v) ≡ None
-    none word.Locked = refl
-    none _ = refl
-
-no_count : (w : ReplyWord) (n : ℕ) → replied.Count n ≢ reply_named w
-no_count word.Locked n e = absurd (cc)
-no_count _ n e = absurd (cc)
-
-no_list : (w : ReplyWord) (ids : Vec ℕ) → replied.Nodes ids ≢ reply_named w
-no_list word.Locked ids e = absurd (cc)
-no_list _ ids e = absurd (cc)
-
-same_seen : (r s : SeenReply) → IsSeen r → IsSeen s → seen_text r ≡ seen_text s → IsSameReply r s
-same_seen (seen.Handle a b) (seen.Handle c d) p q e =
-    let is =
-    handle_same a b c d p q (sym (append_assoc (decimal a) (codes " ") (decimal b))
-    ∙ (append_cancel_left (codes "handle ") _ _ e
-    ∙ append_assoc (decimal c) (codes " ") (decimal d))) in
-    rw (is.0, is.1) (own_reply (seen.Handle c d))
-same_seen (seen.Word v) (seen.Word w) p q e = rw (one_word v w e) (own_reply (seen.Word w))
-same_seen (seen.Count m) (seen.Count n) p q e =
-    rw ((same_count m n p q).1 e) (own_reply (seen.Count n))
-same_seen (seen.List ids) (seen.List others) p q e =
-    other_ids ids others ((listed_one (codes " ") 32 printed_one).same (ids.items, [])
-    (others.items, []) (listed_fit ids.items p) (listed_fit others.items q)
-    (listed_is ids.items ∙ (append_cancel_left (codes "list") _ _ e ∙ sym (listed_is
-    others.items)))).0
-same_seen (seen.Word w) (seen.Handle a b) p q e = absurd (no_handle w a b e)
-same_seen (seen.Handle a b) (seen.Word w) p q e = absurd (no_handle w a b (sym e))
-same_seen (seen.Count n) (seen.Handle a b) p q e =
-    absurd (no_handle_text (replied.Count n) refl a b e)
-same_seen (seen.Handle a b) (seen.Count n) p q e =
-    absurd (no_handle_text (replied.Count n) refl a b (sym e))
-same_seen (seen.List ids) (seen.Handle a b) p q e =
-    absurd (no_handle_text (replied.Nodes ids) refl a b e)
-same_seen (seen.Handle a b) (seen.List ids) p q e =
-    absurd (no_handle_text (replied.Nodes ids) refl a b (sym e))
-same_seen (seen.Count n) (seen.Word w) p q e =
-    absurd (no_count w n (is_named (replied.Count n) w e))
-same_seen (seen.Word w) (seen.Count n) p q e =
-    absurd (no_count w n (is_named (replied.Count n) w (sym e)))
-same_seen (seen.List ids) (seen.Word w) p q e =
-    absurd (no_list w ids (is_named (replied.Nodes ids) w e))
-same_seen (seen.Word w) (seen.List ids) p q e =
-    absurd (no_list w ids (is_named (replied.Nodes ids) w (sym e)))
-same_seen (seen.Count n) (seen.List ids) p q e =
-    absurd (omega (arith, ap (λ (l : List ℕ). get_or l 0 0) e))
-same_seen (seen.List ids) (seen.Count n) p q e =
-    absurd (omega (arith, ap (λ (l : List ℕ). get_or l 0 0) e))
-
-pub same_says : (words : List ℕ) (r s : SeenReply) → Says words r → Says words s
-    → IsSameReply r s
-same_says words r s a b = same_seen r s a.is b.is (a.text ∙ sym b.text)
