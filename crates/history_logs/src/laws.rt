@@ -20,8 +20,8 @@ pub fn expected_goes_by_variant(
 }
 
 /// A line that gives an empty registry, of which no ticket was used, leaves what was read as it
-/// was, but that a service with calls begins anew. So a log with such lines above its calls is
-/// judged as one without.
+/// was, where it may come next, but that a service with calls begins anew. So a log with such lines
+/// above its calls is judged as one without.
 pub fn empty_states_change_nothing()
     ensures { EmptyStatesChangeNothing }
 {}

@@ -14,11 +14,10 @@ use std::alloc::Global;
 pub struct ConformAnswer {
     /// The number of a [`Status`]; that of `Done` where the log conforms.
     pub status: u32,
-    /// The number of the [`Status`] that the call has with a longer buffer.
+    /// The number of the [`Status`] that this call would have had with a longer buffer.
     pub verdict: u32,
-    /// The number of the first line that has a reply that no order explains, with which a bound is
-    /// passed, or that is not what is expected, from 1 on; 0 where the log conforms or memory was
-    /// refused.
+    /// The number of the line down to which no order explains the log, with which a bound is passed,
+    /// or that is not what is expected, from 1 on; 0 where the log conforms or memory was refused.
     pub line: usize,
     /// How many calls the log has, where it conforms; else 0.
     pub calls: usize,

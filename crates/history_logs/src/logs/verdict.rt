@@ -69,7 +69,8 @@ pub struct Refusal {
     /// order explains these alone, and the others change nothing. Not all that could be left out
     /// are, where the window is large.
     pub needed: Vec<usize>,
-    /// What the calls before it can have led to, each once.
+    /// What the calls before it can have led to. Two that differ only in what open weak listings
+    /// have seen are reported alike.
     pub configurations: Vec<Configuration>,
 }
 
@@ -82,10 +83,12 @@ pub enum Verdict {
     /// line above it, but for services that pass a bound there.
     Refused(Refusal),
     /// At this line more than `histories::MAX_CONFIGS` configurations were to be followed: not
-    /// decided. No reply is refused on another service, or below it, where the service began anew.
+    /// decided. No reply is refused of a service that passes no bound, nor of this one below it,
+    /// where it began anew.
     ManyConfigs(usize),
-    /// From this line on more than `histories::MAX_OPEN` calls of a service are open: not decided.
-    /// No reply is refused on another service, or below it, where the service began anew.
+    /// Behind this line one call more than `histories::MAX_OPEN` is open on a service: not decided.
+    /// No reply is refused of a service that passes no bound, nor of this one below it, where it
+    /// began anew.
     ManyOpen(usize),
     /// Orders explain what is above the line of this number, and it is not what it should be, or
     /// the log ends before it.
@@ -98,6 +101,6 @@ pub struct Order {
     /// The number of the service.
     pub service: u64,
     /// The lines in which its calls begin: a call alone begins in the line of its reply. A call
-    /// that was never answered and took no effect is not there.
+    /// that was never answered may be left out.
     pub lines: Vec<usize>,
 }
