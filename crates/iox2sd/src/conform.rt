@@ -16,8 +16,9 @@ pub struct ConformAnswer {
     pub status: u32,
     /// The number of the [`Status`] that this call would have had with a longer buffer.
     pub verdict: u32,
-    /// The number of the line down to which no order explains the log, with which a bound is passed,
-    /// or that is not what is expected, from 1 on; 0 where the log conforms or memory was refused.
+    /// The number, from 1 on, of the line down to which no order explains the log, with which a
+    /// bound is passed, or that is not what is expected; 0 where the log conforms or memory was
+    /// refused.
     pub line: usize,
     /// How many calls the log has, where it conforms; else 0.
     pub calls: usize,

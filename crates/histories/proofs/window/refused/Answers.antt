@@ -15,7 +15,8 @@ returns-in-Ok-clause-verdict g c = (
   rw c.in-Ok.is at (c.in_ok-window.ensures.latest refl),
 )
 
-pub returns-in-Err-default-ManyOpen-clause-verdict : goal.returns-in-Err-default-ManyOpen-clause-verdict
+pub returns-in-Err-default-ManyOpen-clause-verdict :
+    goal.returns-in-Err-default-ManyOpen-clause-verdict
 returns-in-Err-default-ManyOpen-clause-verdict g c =
     let arm = c.in-Err-default-ManyOpen in
     open_front _ _ _ _ _ (omega (arith, c.requires.stop.within))
