@@ -1,7 +1,16 @@
 -- What weak listings lack after they have looked.
-use Rattle.service_conformance.proofs.Names.{All, All-head, All-tail, AllByRecursion, Bool, Err, List, None, Ok, OnErr, OnOk, Option, Result, Some, [], and_parts, ap, cases_Bool, cons_option, eqb-true, false, filter, filter_map-append, filter_passes, get_or, inl, inr, length, nil_from_length, not, refl, same_Some, subst, sym, take, take_more, true, ℕ, ◌&&◌, ◌++◌, ◌+◌, ◌<◌, ◌==◌, ◌∙◌, ◌∷◌, ◌≡◌, ◌⊎◌, IsWatched, Look, Part, Service, Watched, ids_in, is_among, lacking, look_after, looks_after, without, Contains, arith, suc, zero, not-not, ◌↔◌, IsThere, WeakListingsSeeEnough, look_of, looks_through}
+use Rattle.service_conformance.proofs.Names.{All, All-head, All-tail, AllByRecursion, Bool, Err, List, None, Ok, OnErr, OnOk, Option, Result, Some, [], and_parts, ap, cases_Bool, cons_option, eqb-true, false, filter, filter_map-append, filter_passes, get_or, inl, inr, length, nil_from_length, not, refl, same_Some, subst, sym, take, take_more, true, ℕ, ◌&&◌, ◌++◌, ◌+◌, ◌<◌, ◌==◌, ◌∙◌, ◌∷◌, ◌≡◌, ◌⊎◌, IsWatched, Look, Part, Service, Watched, ids_in, is_among, lacking, look_after, looks_after, without, Contains, arith, suc, zero, not-not, ◌↔◌, IsThere, WeakListingsSeeEnough, look_of, All-nil, All-cons, append-nil, eq-eqb, ◌≢◌}
+use Rattle.std.proofs.lemmas.List.Elements.{filter-append}
+use Rattle.service_conformance.specs.Looks.{LacksNothing}
+use Rattle.service_conformance.specs.Laws.{LooksAt, SeesEnough}
+use Rattle.service_conformance.specs.Laws.LooksAt.{beside, no_more, sees}
 use Rattle.std.proofs.lemmas.Map.Views.{any-filter_same}
 use Rattle.service_conformance.proofs.Possibles.{not_both}
+
+-- those of the weak listings that lack something after services, one after the other
+abbrev looks_through : List Service → List Look → List Look
+looks_through [] looks = looks
+looks_through (s ∷ services) looks = looks_through services (looks_after s looks)
 
 pub by_cases : (P : Type 0) (b : Bool) → (b ≡ true → P) → (b ≡ false → P) → P
 by_cases P true then_so else_so = then_so refl
@@ -309,8 +318,10 @@ all_there p id (x ∷ services) s all (zero, h, is) =
 all_there p id (x ∷ services) s all (suc k, h, is) =
     all_there p id services s all.1 (k, omega (arith, h), is)
 
-pub enough : WeakListingsSeeEnough
-enough number p reply first others =
+enough_alone : (number : ℕ) (p : Part) (reply : List ℕ) (first : Service) (others : List Service)
+    → (looks_through (first ∷ others) (look_of number p reply first ∷ []) ≡ [])
+    ↔ SeesEnough p reply (first ∷ others)
+enough_alone number p reply first others =
     let services = first ∷ others in
     let l = look_of number p reply first in
     let Away = Settles (was_away p) services in (
@@ -331,4 +342,81 @@ enough number p reply first others =
               | inr away ↦ away
             ]);
       }),
+    )
+
+-- of the weak listings those with this number
+module _ (number : ℕ) where
+  abbrev is_own : Look → Bool
+  is_own l = l.number == number
+
+  abbrev own : List Look → List Look
+  own looks = filter is_own looks
+
+  abbrev IsOther : Look → Type 0
+  IsOther l = l.number ≢ number
+
+  not_own : (l : Look) → IsOther l → is_own l ≡ false
+  not_own l other =
+      by_cases _ (is_own l) (λ t. absurd (other (eqb-true l.number number t))) (λ f. f)
+
+  own_none : (looks : List Look) → LacksNothing looks number → own looks ≡ []
+  own_none [] all = refl
+  own_none (l ∷ looks) all =
+      rw (not_own l (All-head IsOther l looks all))
+      (own_none looks (All-tail IsOther l looks all))
+
+  none_own : (looks : List Look) → own looks ≡ [] → LacksNothing looks number
+  none_own [] e = All-nil IsOther
+  none_own (l ∷ looks) e =
+      by_cases _ (is_own l) (λ t. absurd (let bars : l ∷ own looks ≡ [] = rw t at e in cc))
+      (λ f. All-cons IsOther l looks
+      (λ same. not_both (is_own l) (eq-eqb l.number number same) f)
+      (none_own looks (rw f at e)))
+
+  own_after : (s : Service) (looks : List Look)
+      → own (looks_after s looks) ≡ looks_after s (own looks)
+  own_after s [] = refl
+  own_after s (l ∷ looks) = cases (look_after (ids_in s l.part) l) refl
+    where
+      rest : own (looks_after s looks) ≡ looks_after s (own looks)
+      rest = own_after s looks
+
+      cases : (o : Option Look) → look_after (ids_in s l.part) l ≡ o
+          → own (looks_after s (l ∷ looks)) ≡ looks_after s (own (l ∷ looks))
+      cases None is =
+          by_cases _ (is_own l) (λ t. rw is (rw t (rw is rest))) (λ f. rw is (rw f rest))
+      cases (Some m) is =
+          let same : is_own m ≡ is_own l =
+          ap is_own (sym (lacking_is (seen_of (ids_in s l.part) l) m is)) in
+          by_cases _ (is_own l)
+          (λ t. rw is (rw (same ∙ t) (rw t (rw is (ap (λ (x : List Look). m ∷ x) rest)))))
+          (λ f. rw is (rw (same ∙ f) (rw f rest)))
+
+  own_through : (services : List Service) (looks new : List Look)
+      → LooksAt number services looks new → own new ≡ looks_through services (own looks)
+  own_through services looks new (no_more x) = refl
+  own_through services looks new (sees s more x y run) =
+      own_through more _ _ run
+      ∙ ap (λ (l : List Look). looks_through more l) (own_after s looks)
+  own_through services looks new (beside more l x y other run) =
+      own_through more _ _ run
+      ∙ ap (λ (l : List Look). looks_through more l)
+      (filter-append is_own looks (l ∷ [])
+      ∙ (rw (not_own l other) (append-nil (own looks))))
+
+pub enough : WeakListingsSeeEnough
+enough number p reply first services others new alone run =
+    let l = look_of number p reply first in
+    let looks = looks_after first (l ∷ []) in
+    let one : own number (l ∷ []) ≡ l ∷ [] = rw (eq-eqb number number refl) refl in
+    let start : own number (others ++ looks) ≡ looks =
+    filter-append (is_own number) others looks
+    ∙ (ap (λ (x : List Look). x ++ own number looks) (own_none number others alone)
+    ∙ (own_after number first (l ∷ []) ∙ ap (looks_after first) one)) in
+    let whole : own number new ≡ looks_through (first ∷ services) (l ∷ []) =
+    own_through number services (others ++ looks) new run
+    ∙ ap (λ (x : List Look). looks_through services x) start in
+    let is = enough_alone number p reply first services in (
+      λ none. is.0 (sym whole ∙ own_none number new none),
+      λ so. none_own number new (whole ∙ is.1 so),
     )

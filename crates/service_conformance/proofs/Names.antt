@@ -65,7 +65,7 @@ pub use Rattle.service_conformance.specs.Given.{Becomes, GivesNode, GivesNodes, 
 pub use Rattle.service_conformance.specs.IdWords.{apart, has_no_space, printed_one, same_id}
 pub use Rattle.service_conformance.specs.Judged.{AreJudgedReplies, CallLeaves, IsIdleJudged, IsWithin, Judged, JudgedStep, WindowStep}
 pub use Rattle.service_conformance.specs.Judged.Judged.{call, stops}
-pub use Rattle.service_conformance.specs.Laws.{IsThere, WeakListingsSeeEnough, looks_through}
+pub use Rattle.service_conformance.specs.Laws.{IsThere, WeakListingsSeeEnough}
 pub use Rattle.service_conformance.specs.Looks.{IsWatched, Look, Watched, ids_in, is_among, lacking, look_after, look_of, looks_after, port_ids, unwatched, watched, without}
 pub use Rattle.service_conformance.specs.Movers.{ChangesAt, IsChange, CanPrecede, MovesBeforeCall}
 pub use Rattle.service_conformance.specs.Possible.{Allows, ArePossible, MayGiveIn, possible_add, reply_in, reply_named, reply_of_owners}
