@@ -30,7 +30,7 @@ pub use Rattle.histories.specs.declared.window.Window.{Window}
 pub use Rattle.iox2_container.proofs.Lists.{get_set_other}
 pub use Rattle.iox2_container.specs.State.{Handle}
 pub use Rattle.iox2_container.specs.Steps.{listed}
-pub use Rattle.line_streams.specs.OneWay.{before_one}
+pub use Rattle.line_streams.proofs.Indices.{before_one}
 pub use Rattle.line_streams.specs.Spelling.{HasNo}
 pub use Rattle.log_lines.proofs.OneReading.{one_way}
 pub use Rattle.log_lines.specs.Commands.{Begun, NamedCommand, named}
