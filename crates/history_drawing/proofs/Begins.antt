@@ -9,8 +9,7 @@ use Rattle.std.proofs.lemmas.List.Elements.{All-push}
 use Rattle.line_streams.specs.Spelling.{HasNo}
 use Rattle.history_drawing.specs.Calls.{texts, BeginsIn, IsAlone, IsElsewhere, Says, text_above, text_at, EndsIn}
 use Rattle.history_drawing.specs.Drawings.{with_newline}
-use Rattle.line_streams.specs.OneWay.{before_one}
-use Rattle.line_streams.proofs.Indices.{has_one}
+use Rattle.line_streams.proofs.Indices.{before_one, has_one}
 use Rattle.std.proofs.lemmas.Bool.{cases_lt}
 use Rattle.log_lines.specs.Commands.{Begun, NamedCommand}
 use Rattle.log_lines.specs.Laws.{IsAlike}

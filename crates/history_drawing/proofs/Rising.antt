@@ -11,7 +11,7 @@ use Rattle.std.proofs.lemmas.List.Elements.{All-append, All-cons, All-contains, 
 use Rattle.std.proofs.lemmas.List.Quantifiers.{all_pairs_push}
 use Rattle.std.proofs.lemmas.Slice.Zip.{all_zipped_more}
 use Rattle.history_logs.specs.declared.logs.verdict.Order.{Order}
-use Rattle.history_drawing.specs.Timelines.{ArePoints, ArePointsOf, Follows, IsLeft, IsPoint, IsPointOf, Reaches, last_of, points_at}
+use Rattle.history_drawing.specs.Timelines.{ArePoints, ArePointsOf, Follows, IsLeft, IsPointOf, IsWithin, Reaches, last_of, points_at}
 use Rattle.history_drawing.specs.Drawings.{HavePoints}
 use Rattle.history_drawing.specs.declared.timeline.Bar.{Bar}
 use Rattle.history_drawing.specs.declared.timeline.BarEnd.{BarEnd}
@@ -185,6 +185,10 @@ orders_next bars orders i o lines old new h is same (each, made, zip) (ps, more,
           (all_zipped_more are (take i orders) each o ps zip
           (subst (λ (l : List ℕ). ArePointsOf bars l ps) same next)),
     )
+
+-- the point lies in one of the bars
+abbrev pub IsPoint : List Bar → Point → Type 0
+IsPoint bars p = (b : Bar) × Contains bars b × IsWithin b p
 
 -- each point of a picture lies in a bar
 pub in_bars : (log : List ℕ) (marked : Option ℕ) (bars : List Bar) (points : List Point)

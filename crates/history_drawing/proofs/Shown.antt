@@ -7,7 +7,7 @@ use Rattle.std.proofs.lemmas.List.Elements.{All-contains, All-push, Contains-app
 use Rattle.std.proofs.lemmas.List.Quantifiers.{all_pairs_push}
 use Rattle.history_drawing.specs.Calls.{text_at}
 use Rattle.history_drawing.specs.Coordinates.{IsDrawable}
-use Rattle.history_drawing.specs.Timelines.{AreApart, AreBars, Extends, HasBar, HasEarlier, IsBar, IsBarOf, IsPoint, IsRow, IsWanted}
+use Rattle.history_drawing.specs.Timelines.{AreApart, AreBars, Extends, HasBar, HasEarlier, IsBar, IsBarOf, IsRow, IsWanted}
 use Rattle.history_drawing.specs.declared.calls.LogCall.{LogCall}
 use Rattle.history_drawing.specs.declared.timeline.Bar.{Bar}
 use Rattle.history_drawing.specs.declared.timeline.Timeline.{Timeline}
@@ -20,6 +20,7 @@ use Rattle.std.specs.Result.{IsOkAnd}
 use Rattle.std.specs.declared.alloc.Global.{Global}
 use Rattle.std.specs.declared.io.Error.{Error}
 use Rattle.std.specs.declared.vec.Vec.{Vec}
+use Rattle.history_drawing.proofs.Rising.{IsPoint}
 use Rattle.history_drawing.specs.Drawings.{DrawnWith, IsDrawingOf}
 use Rattle.history_drawing.specs.declared.drawing.Drawing.{Drawing}
 
@@ -29,12 +30,6 @@ pub row_text : (rows more : List (Bor (List ℕ))) (k : ℕ) → k < length rows
 row_text [] more k h = absurd (omega (arith, h))
 row_text (name ∷ rows) more zero h = refl
 row_text (name ∷ rows) more (suc k) h = row_text rows more k (omega (arith, h))
-
--- the text of a new row
-pub row_last : (rows : List (Bor (List ℕ))) (name : Bor (List ℕ))
-    → text_at (rows ++ name ∷ []) (length rows) ≡ name.now
-row_last [] name = refl
-row_last (other ∷ rows) name = row_last rows name
 
 -- a row stays
 pub row_kept : (old new : List (Bor (List ℕ))) (row last : ℕ) (caller : List ℕ)

@@ -113,10 +113,6 @@ pub record IsWithin (b : Bar) (p : Point) : Type 0 where
   pub reached : Reaches b.end p.line
   pub few : p.part ≤ 200
 
--- the point lies in one of the bars
-abbrev pub IsPoint : List Bar → Point → Type 0
-IsPoint bars p = (b : Bar) × Contains bars b × IsWithin b p
-
 -- the point lies in the bar of the call that begins in this line
 abbrev pub IsPointOf : List Bar → ℕ → Point → Type 0
 IsPointOf bars line p = (b : Bar) × Contains bars b × (b.begin ≡ line) × IsWithin b p

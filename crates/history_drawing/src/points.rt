@@ -1,5 +1,5 @@
 //! Where calls took effect.
-ghost use Rattle.std.specs.Prelude.{◌≡◌, ◌≢◌, ◌++◌, ◌<◌, ◌≤◌, ℕ, All, AllPairs, Contains, IfNone};
+ghost use Rattle.std.specs.Prelude.{◌≡◌, ◌≢◌, ◌++◌, ◌<◌, ◌≤◌, All, AllPairs, Contains, IfNone};
 ghost use Rattle.std.specs.Prelude.{IfOk, IfSome, IsFalse, IsTrue, List, OnOk};
 ghost use Rattle.history_drawing.specs.Timelines.{ArePoints, ArePointsOf, Follows, IsPointOf, Reaches};
 ghost use Rattle.history_drawing.specs.declared.timeline.Bar.{Bar};

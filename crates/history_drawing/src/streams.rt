@@ -1,10 +1,9 @@
 //! Pictures of logs that come from a stream.
-ghost use Rattle.std.specs.Prelude.{◌≡◌, ◌<◌, ◌⊎◌, IfErr, IfOk, IfSome, OnOk, string_bytes};
+ghost use Rattle.std.specs.Prelude.{◌≡◌, ◌<◌, IfErr, IfOk, IfSome, OnOk, string_bytes};
 ghost use Rattle.std.specs.Result.{IsOkAnd};
 ghost use Rattle.std.specs.Io.KnownBytes.{IsAtEnd};
-ghost use Rattle.std.specs.declared.io.Error.{Error};
-ghost use Rattle.line_streams.specs.Filters.{Ends, RefusesMemory, status_number};
-ghost use Rattle.line_streams.specs.Streams.{Fails, IsFlushed, ReadFails, ReportsFailure};
+ghost use Rattle.line_streams.specs.Filters.{Ends, GivesUp, status_number};
+ghost use Rattle.line_streams.specs.Streams.{IsFlushed, StreamFails};
 ghost use Rattle.history_drawing.specs.Drawings.{DrawnWith, IsDrawingOf};
 
 use crate::drawing::{Drawing, draw_log};
@@ -57,10 +56,8 @@ fn run<R: Source, W: Sink, E: Sink>(
     ensures flushed { OnOk result
         (IsFlushed W.Flushes output.new × IsFlushed E.Flushes errors.new) }
     ensures read { IfOk result (λ status. status < 3 → IsAtEnd (R.remaining input.new)) }
-    ensures failed { IfErr result (λ e. (ReadFails R.FailsBy input.new e
-        × (output.new ≡ output.old) × (errors.new ≡ errors.old))
-        ⊎ (Fails W.Writes W.FailsToFlush output.new e
-        ⊎ Fails E.Writes E.FailsToFlush errors.new e)) }
+    ensures failed { IfErr result (StreamFails R.FailsBy W.Writes W.FailsToFlush E.Writes
+        E.FailsToFlush input.new output.old output.new errors.old errors.new) }
 {
     run_filter(alloc, input, output, errors, |read| draw_read(alloc, read))
 }
@@ -92,13 +89,8 @@ pub fn draw_streams<R: Source, W: Sink, E: Sink>(
     ensures read { result < 3 → IsAtEnd (R.remaining input.new) }
     // Memory was refused, or a read, a write or a flush failed, and that was reported. Where the
     // read failed, nothing was written before that.
-    ensures failed { result ≡ 3
-        → RefusesMemory (W.contents output.old) (W.contents output.new)
-        (E.contents errors.old) (E.contents errors.new)
-        ⊎ ((e : Error) × (before : E) × ReportsFailure E.contents E.Writes before errors.new
-        × ((ReadFails R.FailsBy input.new e × (output.new ≡ output.old) × (before ≡ errors.old))
-        ⊎ (Fails W.Writes W.FailsToFlush output.new e
-        ⊎ Fails E.Writes E.FailsToFlush before e))) }
+    ensures failed { result ≡ 3 → GivesUp R.FailsBy W.contents W.Writes W.FailsToFlush E.contents
+        E.Writes E.FailsToFlush input.new output.old output.new errors.old errors.new }
 {
     let end = run(alloc, input, output, errors);
     report_failure(errors, end)

@@ -1,11 +1,23 @@
 -- The lines above one.
-use Rattle.history_logs.proofs.Words.{All, All-head, All-tail, Expected, GoesOn, HasNo, HasNoNext, IsAbove, IsOrderly, IsReadTo, IsTrue, List, Log, None, Option, Service, Some, Takes, [], ap, arith, before_one, calls_in, inl, inr, is_note, length, length-append, line_text, refl, subst, sum_by, sym, ℕ, ◌++◌, ◌+◌, ◌<◌, ◌∙◌, ◌∷◌, ◌≡◌, ◌≢◌, ◌≤◌}
+use Rattle.history_logs.proofs.Words.{All, All-head, All-tail, Expected, GoesOn, HasNo, HasNoNext, IsKept, IsOrderly, IsReadTo, IsTrue, List, Log, None, Option, Service, Some, Takes, [], ap, arith, before_one, calls_in, inl, inr, is_note, length, length-append, line_text, refl, subst, sum_by, sym, ℕ, ◌++◌, ◌+◌, ◌<◌, ◌∙◌, ◌∷◌, ◌≡◌, ◌≢◌, ◌≤◌}
 use Rattle.history_logs.specs.declared.logs.verdict.Expected.TheVariants as expected
 use Rattle.history_logs.specs.Good.{EndsSo}
 use Rattle.history_logs.specs.Logs.{EndsThere, IsMissing}
+use Rattle.history_logs.specs.Reading.{HasRead}
 use Rattle.history_logs.specs.Reading.HasRead.{nothing, note, line}
 use Rattle.history_logs.proofs.FirstLines.{behind}
 use Rattle.history_logs.proofs.Kept.{few_step, kept_new, kept_step}
+
+-- the lines above this one are this text, and this was read of them
+pub record IsAbove (bytes : List ℕ) (log : Log) (rest : List ℕ) (line : ℕ) : Type 0 where
+  pub text : List ℕ
+  pub count : ℕ
+  pub read : HasRead text count log
+  pub spelled : bytes ≡ text ++ rest
+  pub is : line ≡ count + 1
+  pub kept : IsKept log
+  pub few : calls_in log ≤ count
+  pub short : count ≤ length text
 
 pub above_new : (bytes : List ℕ) (log : Log) → log.services ≡ []
     → ((name : List ℕ) → log.callers name ≡ None) → log.waits ≡ None → IsAbove bytes log bytes 1

@@ -1,5 +1,5 @@
 -- What is kept of a log while it is read, and what settles of all services.
-use Rattle.history_logs.proofs.Words.{All, All-nil, AreNumbers, AreRightShort, AreSameFronts, AreShort, BTreeMap, Begin, CallerState, Contains-push, Crash, End, Event, Front, GoesOn, GoesShort, HasHandles, HasNo, HasShort, HaveShort, IsAbove, IsKept, IsOrderly, IsReadTo, IsSane, IsSeenRightly, IsShort, IsShortAbove, Line, List, Log, MayFollow, NamedCommand, None, Option, Service, Some, StayAll, Stays, StepOf, Takes, Watched, [], ap, arith, cases_lt, end_verdict, eqb, front_at, get_or, get_or_default, get_or_past, inl, inr, length, length-set, news, nil_from_length, numbers_in, refl, services_in, slice_get, slice_get_within, slice_set, subst, sum-map, sum_by, sym, take, take_all, true, ℕ, ◌++◌, ◌+◌, ◌<◌, ◌==◌, ◌∙◌, ◌∷◌, ◌≡◌, ◌≢◌, ◌≤◌}
+use Rattle.history_logs.proofs.Words.{All, All-nil, AreNumbers, AreRightShort, AreSameFronts, AreShort, BTreeMap, Begin, CallerState, Contains-push, Crash, End, Event, Front, GoesOn, GoesShort, HasHandles, HasNo, HasShort, HaveShort, IsKept, IsOrderly, IsReadTo, IsSane, IsSeenRightly, IsShort, Line, List, Log, MayFollow, NamedCommand, None, Option, Service, Some, StayAll, Stays, StepOf, Takes, Watched, [], ap, arith, cases_lt, end_verdict, eqb, front_at, get_or, get_or_default, get_or_past, inl, inr, length, length-set, news, nil_from_length, numbers_in, refl, services_in, slice_get, slice_get_within, slice_set, subst, sum-map, sum_by, sym, take, take_all, true, ℕ, ◌++◌, ◌+◌, ◌<◌, ◌==◌, ◌∙◌, ◌∷◌, ◌≡◌, ◌≢◌, ◌≤◌}
 use Rattle.histories.specs.Histories.{begun}
 use Rattle.std.proofs.Common.{get_or-set_other, get_or-set_same, sum}
 use Rattle.std.specs.Set.{distinct_count}
@@ -9,15 +9,28 @@ use Rattle.histories.proofs.Frontiers.{explains_none}
 use Rattle.histories.proofs.Following.{goes_explained}
 use Rattle.service_conformance.specs.Looks.{unwatched}
 use Rattle.history_logs.specs.Logs.{Judged}
-use Rattle.history_logs.specs.Settling.{IsRightShort, IsShortLog}
+use Rattle.history_logs.specs.Settling.{IsRightShort}
 use Rattle.history_logs.specs.declared.logs.callers.CallerState.TheVariants as caller
-use Rattle.history_logs.proofs.Above.{above_more, read_whole}
+use Rattle.history_logs.proofs.Above.{IsAbove, above_more, read_whole}
 use Rattle.history_logs.proofs.AtIndex.{all_get, all_of, get_within}
 use Rattle.history_logs.proofs.Judgements.{judged_conforms}
 use Rattle.history_logs.proofs.Named.{map_same, same_numbers, set_back}
 use Rattle.history_logs.proofs.Kept.{longer_step}
 use Rattle.history_logs.proofs.Shortened.{kept_call, short_alone, short_begins, short_end, short_new, short_over, short_started}
 use Rattle.history_logs.proofs.Together.{AreTogether, GoTogether, Keeps, found, goes_too, put}
+
+-- what is kept of what was read
+pub record IsShortLog (log live : Log) (fronts : List (Option (Front Watched))) : Type 0 where
+  pub services : AreShort log.services live.services fronts
+  pub callers : live.callers ≡ log.callers
+  pub waits : live.waits ≡ log.waits
+
+-- this is kept of the lines above this one
+pub record IsShortAbove (bytes : List ℕ) (live : Log) (fronts : List (Option (Front Watched)))
+    (rest : List ℕ) (line : ℕ) : Type 0 where
+  pub log : Log
+  pub above : IsAbove bytes log rest line
+  pub short : IsShortLog log live fronts
 
 -- what is kept of a service goes together with it
 abbrev IsShortAt : List (Option (Front Watched)) → ℕ → Service → Service → Type 0

@@ -9,7 +9,7 @@ pub use Rattle.histories.specs.declared.front.Event.TheVariants.{Begin, Crash, E
 pub use Rattle.histories.specs.declared.front.Front.{Front}
 pub use Rattle.history_logs.specs.EventLines.{Answers, HasCommand, HasEventLines, IsCommandOf, IsLineAt, IsSaidIn}
 pub use Rattle.history_logs.specs.Fields.{AreNumbers, log_of, numbers_in, waits_in}
-pub use Rattle.history_logs.specs.Good.{HasNoNext, IsAbove, IsKept, IsOrderly, IsReadTo, Starts, Takes, TakesLine, TakesNext, is_service}
+pub use Rattle.history_logs.specs.Good.{HasNoNext, IsKept, IsOrderly, IsReadTo, Starts, Takes, TakesLine, TakesNext, is_service}
 pub use Rattle.history_logs.specs.Judging.{AreJudged, AreLines, AreLinesTo, IsFirstFound, IsFoundOf, IsNotBefore, IsRefusedIn, comes_before, earlier, end_verdict}
 pub use Rattle.history_logs.specs.Logs.{AreNeededLines, BeginsAt, IsReported, IsRightAbove, IsSeenRightly, NoneRefused, NoneRefusedAbove, StepOf, StopsIn, calls_in, line_begun, news, services_in}
 pub use Rattle.history_logs.specs.Orders.{HasOrders}
@@ -18,7 +18,7 @@ pub use Rattle.history_logs.specs.Progress.{AddsCounts}
 pub use Rattle.history_logs.specs.Reading.{Crashes, Does, Gives, GoesOn, IsNamed, IsSane, Log, MayBegin, NoneCalls, Says, Sets, StartsAs}
 pub use Rattle.history_logs.specs.Reports.{config_text, line_of, number_word, order_text, report_text}
 pub use Rattle.history_logs.specs.Seen.{Begins, HasHandles, Service, added_by, called, calls_answered, calls_shown, changed, forgetting, forgotten, given_by, given_in, start_of, started, starting, stopping, unseen, with_alone, with_begin, with_crash, with_end, with_look, with_over, with_part}
-pub use Rattle.history_logs.specs.Settling.{AreOver, AreRightShort, AreSameFronts, AreShort, GoesShort, HasFront, HasShort, HaveShort, IsShort, IsShortAbove, MayFollowAt, StayAll, Stays, front_at}
+pub use Rattle.history_logs.specs.Settling.{AreOver, AreRightShort, AreSameFronts, AreShort, GoesShort, HasFront, HasShort, HaveShort, IsShort, MayFollowAt, StayAll, Stays, front_at}
 pub use Rattle.history_logs.specs.declared.logs.callers.CallerState.{CallerState}
 pub use Rattle.history_logs.specs.declared.logs.verdict.Expected.{Expected}
 pub use Rattle.history_logs.specs.declared.logs.verdict.Refusal.{Refusal}
@@ -30,7 +30,7 @@ pub use Rattle.histories.specs.declared.window.Window.{Window}
 pub use Rattle.iox2_container.proofs.Lists.{get_set_other}
 pub use Rattle.iox2_container.specs.State.{Handle}
 pub use Rattle.iox2_container.specs.Steps.{listed}
-pub use Rattle.line_streams.specs.OneWay.{before_one}
+pub use Rattle.line_streams.proofs.Indices.{before_one}
 pub use Rattle.line_streams.specs.Spelling.{HasNo}
 pub use Rattle.log_lines.proofs.OneReading.{one_way}
 pub use Rattle.log_lines.specs.Commands.{Begun, NamedCommand, named}

@@ -12,7 +12,7 @@ use Rattle.history_logs.specs.declared.logs.callers.CallerState.TheVariants as c
 use Rattle.history_logs.specs.declared.logs.verdict.Expected.TheVariants as expected
 use Rattle.history_logs.specs.declared.logs.verdict.Expected.{Expected}
 use Rattle.history_logs.specs.Logs.{HasGood, IsBad, IsBadText, IsWrong, LacksReply, calls_in}
-use Rattle.history_logs.specs.Reading.{GoesOn, HasRead, Log, Says, StartsAnewAs, StartsAs}
+use Rattle.history_logs.specs.Reading.{GoesOn, Log, Says, StartsAnewAs, StartsAs}
 use Rattle.history_logs.specs.Seen.{HasAll, Service, started, unseen}
 
 -- Each call of the service has its role, its handle and its line, and each event its line. What
@@ -86,17 +86,6 @@ Takes old k text (Some e) new =
     IsKept old
     → (¬ (IsTrue (is_note text))) × HasNoNext old k text × IsBadText old text e
     × (new.services ≡ old.services)
-
--- the lines above this one are this text, and this was read of them
-pub record IsAbove (bytes : List ℕ) (log : Log) (rest : List ℕ) (line : ℕ) : Type 0 where
-  pub text : List ℕ
-  pub count : ℕ
-  pub read : HasRead text count log
-  pub spelled : bytes ≡ text ++ rest
-  pub is : line ≡ count + 1
-  pub kept : IsKept log
-  pub few : calls_in log ≤ count
-  pub short : count ≤ length text
 
 -- where the good lines end: with the log, and nothing is missing, or before what is bad
 abbrev pub EndsSo : Log → ℕ → List ℕ → Option (ℕ × Expected) → Type 0

@@ -8,9 +8,8 @@ use Rattle.histories.specs.Histories.{HasEnded, StandsAt, begins, begun}
 use Rattle.histories.specs.Windows.{IsFrontAfter}
 use Rattle.service_conformance.specs.Judged.{Judged, WindowStep}
 use Rattle.service_conformance.specs.Looks.{Watched}
-use Rattle.history_logs.specs.Good.{IsAbove, IsOrderly}
+use Rattle.history_logs.specs.Good.{IsOrderly}
 use Rattle.history_logs.specs.Logs.{IsSeenRightly, news}
-use Rattle.history_logs.specs.Reading.{Log}
 use Rattle.history_logs.specs.Seen.{Service, start_of}
 
 -- the service, with the calls, the events and the lines of another one
@@ -64,12 +63,6 @@ AreShort services live fronts =
     (length live ≡ length services) × (length fronts ≤ length services)
     × ((at : ℕ) (s t : Service) → slice_get services at ≡ Some s → slice_get live at ≡ Some t
     → IsShort s t (front_at fronts at))
-
--- what is kept of what was read
-pub record IsShortLog (log live : Log) (fronts : List (Option (Front Watched))) : Type 0 where
-  pub services : AreShort log.services live.services fronts
-  pub callers : live.callers ≡ log.callers
-  pub waits : live.waits ≡ log.waits
 
 -- the call is over in the events, and the weak listing too that starts with it, if one does
 abbrev pub IsOverIn : Service → List Event → ℕ → Type 0
@@ -138,10 +131,3 @@ AreRightShort live fronts =
 -- each service has the front that it had, or none
 abbrev pub AreSameFronts : List (Option (Front Watched)) → List (Option (Front Watched)) → Type 0
 AreSameFronts old new = (at : ℕ) → front_at new at ≡ front_at old at
-
--- this is kept of the lines above this one
-pub record IsShortAbove (bytes : List ℕ) (live : Log) (fronts : List (Option (Front Watched)))
-    (rest : List ℕ) (line : ℕ) : Type 0 where
-  pub log : Log
-  pub above : IsAbove bytes log rest line
-  pub short : IsShortLog log live fronts

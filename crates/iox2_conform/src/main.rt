@@ -2,10 +2,9 @@
 #![tactic(auto)]
 
 ghost use Rattle.std.specs.Prelude.{◌≡◌, ◌<◌, ◌⊎◌};
-ghost use Rattle.std.specs.declared.io.Error.{Error};
 ghost use Rattle.history_logs.specs.Progress.{AddsCounts};
-ghost use Rattle.line_streams.specs.Filters.{RefusesMemory};
-ghost use Rattle.line_streams.specs.Streams.{Fails, IsFlushed, ReadFails, ReportsFailure};
+ghost use Rattle.line_streams.specs.Filters.{GivesUp};
+ghost use Rattle.line_streams.specs.Streams.{IsFlushed};
 ghost use Rattle.iox2_conform.specs.Program.{Ran, RequestsCheck, RequestsProgress, text_on_errors};
 ghost use Rattle.iox2_conform.specs.Program.{text_on_output, text_status};
 
@@ -125,13 +124,8 @@ fn conform_streams<R: Source, W: Sink, E: Sink, P: Progress>(
         → IsFlushed W.Flushes output.new × IsFlushed E.Flushes errors.new }
     // Memory was refused, or a read, a write or a flush failed, and that was reported. Where the
     // read failed, nothing was written before that.
-    ensures failed { result ≡ 3
-        → RefusesMemory (W.contents output.old) (W.contents output.new)
-        (E.contents errors.old) (E.contents errors.new)
-        ⊎ ((e : Error) × (before : E) × ReportsFailure E.contents E.Writes before errors.new
-        × ((ReadFails R.FailsBy input.new e × (output.new ≡ output.old) × (before ≡ errors.old))
-        ⊎ (Fails W.Writes W.FailsToFlush output.new e
-        ⊎ Fails E.Writes E.FailsToFlush before e))) }
+    ensures failed { result ≡ 3 → GivesUp R.FailsBy W.contents W.Writes W.FailsToFlush E.contents
+        E.Writes E.FailsToFlush input.new output.old output.new errors.old errors.new }
     // Progress wrote counts of lines alone, and nothing where it was not requested.
     ensures progress { AddsCounts (P.contents progress.old) (P.contents progress.new) }
     ensures still { ¬ (RequestsProgress arguments) → progress.new ≡ progress.old }

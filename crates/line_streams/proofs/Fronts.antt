@@ -2,15 +2,29 @@
 use Rattle.std.proofs.Common.{◌≡◌, ◌≢◌, ℕ, zero, suc, ◌<◌, ◌≤◌, ◌^◌, ◌+◌, List, [], ◌∷◌, ◌++◌, length, get_or, take, drop, ◌-◌, ◌*◌, inl, inr, arith, sym, ◌∙◌, ap}
 use Rattle.std.specs.Fmt.{decimal}
 use Rattle.std.specs.Str.Parse.{AllDigits, digits_value}
-use Rattle.std.proofs.lemmas.Fmt.{digits_value-decimal, decimal_digit, decimal_nonempty, decimal-digits_value}
-use Rattle.std.proofs.lemmas.Str.Parse.{digit_from_value, digits_value-take-le}
+use Rattle.std.proofs.lemmas.Fmt.{decimal_is_IsNumeral, digits_value-decimal, decimal_digit, decimal_nonempty, decimal-digits_value, first_decimal}
+use Rattle.std.proofs.lemmas.Str.Parse.{IsNumeralModel, digit_at, digit_from_value, digits_value-take-le, numerals_by_value, tells_digits}
 use Rattle.std.proofs.lemmas.Str.{digit_value_digit}
 use Rattle.std.proofs.lemmas.Int.Digits.{digits_more, digits_value_more}
 use Rattle.std.proofs.lemmas.Bool.{cases_lt}
 use Rattle.std.proofs.lemmas.List.{drop-drop, length-append, length-take-le, take-append-drop, take-append-le, get_or-take, length-drop, get_or-drop, get_or_past}
 use Rattle.std.proofs.Math.ListN.{get_or-append}
 use Rattle.line_streams.specs.Spelling.{EndsNumber, IsDigit}
-use Rattle.line_streams.specs.Numerals.{own, decimal_first, decimal_no_zero}
+
+-- digits write their number
+own : IsNumeralModel (AllDigits 10) (digits_value 10)
+own = numerals_by_value (AllDigits 10) tells_digits
+
+pub decimal_first : (n : ℕ) → n < 2 ^ 64 → IsDigit (get_or (decimal n) 0 0)
+decimal_first n h = digit_at (decimal n) 0 (decimal_is_IsNumeral n h).0.1 (decimal_nonempty n h)
+
+-- a number that begins with a zero is 0
+decimal_no_zero : (n : ℕ) → n < 2 ^ 64 → get_or (decimal n) 0 0 ≡ 48 → length (decimal n) ≡ 1
+decimal_no_zero n h e = elim (cases_lt 0 n) [
+  | inl above ↦ let more = first_decimal n above h in absurd (omega arith)
+  | inr none ↦
+      let zero : n ≡ 0 = omega arith in rw zero (ap length (decimal_digit 0 (omega arith)))
+]
 
 -- digits at the front of a text are those of its number
 covers : (a rest : List ℕ) (k : ℕ) → EndsNumber rest → AllDigits 10 (take k (a ++ rest))

@@ -8,7 +8,8 @@ use Rattle.std.proofs.lemmas.List.{length-take-le, take-append-drop, get_or-take
 use Rattle.std.proofs.lemmas.List.Elements.{All-from_get_or, All-head, All-tail}
 use Rattle.std.proofs.lemmas.List.Quantifiers.{position-Some}
 use Rattle.std.proofs.lemmas.List.Sums.{fails_before_first, position_or_len_is}
-use Rattle.line_streams.specs.Spelling.{HasNo}
+use Rattle.line_streams.specs.Numerals.{cons_same}
+use Rattle.line_streams.specs.Spelling.{HasNo, OneWay, before}
 
 -- the index that a search for the byte finds
 pub found_first : (byte : ℕ) (xs : List ℕ) (found : Option ℕ)
@@ -68,3 +69,19 @@ parts_at byte xs i e =
 pub has_one : (byte : ℕ) (xs ys : List ℕ) → ¬ HasNo byte (xs ++ byte ∷ ys)
 has_one byte [] ys h = All-head (λ b. b ≢ byte) byte ys h refl
 has_one byte (x ∷ xs) ys h = has_one byte xs ys (All-tail (λ b. b ≢ byte) x (xs ++ byte ∷ ys) h)
+
+-- no two texts come before the first of a byte
+pub before_one : (byte : ℕ) → OneWay (before byte)
+before_one byte = record { same = λ a b p q e. same a.0 b.0 a.1 b.1 p q e }
+  where
+    same : (v w x y : List ℕ) → HasNo byte v → HasNo byte w → v ++ byte ∷ x ≡ w ++ byte ∷ y
+        → (v ≡ w) × (x ≡ y)
+    same [] [] x y p q e = (refl, (cons_same e).1)
+    same [] (b ∷ w) x y p q e =
+        absurd (All-head (λ c. c ≢ byte) b w q (sym (cons_same e).0))
+    same (a ∷ v) [] x y p q e = absurd (All-head (λ c. c ≢ byte) a v p (cons_same e).0)
+    same (a ∷ v) (b ∷ w) x y p q e =
+        let both = cons_same e in
+        let rest = same v w x y (All-tail (λ c. c ≢ byte) a v p)
+        (All-tail (λ c. c ≢ byte) b w q) both.1 in
+        (rw (both.0, rest.0) refl, rest.1)

@@ -3,9 +3,11 @@ use Rattle.std.specs.Prelude.{◌≡◌, ◌<◌, ◌⊎◌, ℕ, List, [], Opti
 use Rattle.std.specs.Io.KnownBytes.{Appends, IsAtEnd}
 use Rattle.std.specs.declared.alloc.AllocError.{AllocError}
 use Rattle.std.specs.declared.alloc.Global.{Global}
+use Rattle.std.specs.declared.io.Error.{Error}
 use Rattle.std.specs.declared.vec.Vec.{Vec}
 use Rattle.line_streams.specs.declared.streams.Status.{Status}
 use Rattle.line_streams.specs.declared.streams.Status.TheVariants.{Good, Faulty, Unusable}
+use Rattle.line_streams.specs.Streams.{ReportsFailure, StreamFails}
 
 -- the number of a status
 abbrev pub status_number : Status → ℕ
@@ -45,3 +47,17 @@ abbrev pub Ends : (ℕ → Type 0) → ℕ → Option (List ℕ) → Option (Lis
 Ends Reported status out_old out_new err_old err_new =
     ((status < 3) × Reported status)
     ⊎ ((status ≡ 3) × RefusesMemory out_old out_new err_old err_new)
+
+-- how a program ends with the status 3: memory was refused, or one of its streams failed, and that
+-- was reported
+abbrev pub GivesUp : {R W E : Type 0} → (R → Error → R → Type 0)
+    → (W → Option (List ℕ)) → (W → List ℕ → Result ℕ Error → W → Type 0)
+    → (W → Error → W → Type 0)
+    → (E → Option (List ℕ)) → (E → List ℕ → Result ℕ Error → E → Type 0)
+    → (E → Error → E → Type 0) → R → W → W → E → E → Type 0
+GivesUp {E = E} reads output out_writes out_flushes errors err_writes err_flushes reader out_old
+    out_new err_old err_new =
+    RefusesMemory (output out_old) (output out_new) (errors err_old) (errors err_new)
+    ⊎ ((e : Error) × (before : E) × ReportsFailure errors err_writes before err_new
+    × StreamFails reads out_writes out_flushes err_writes err_flushes reader out_old out_new err_old
+    before e)

@@ -1,29 +1,13 @@
 -- The texts of numbers.
-use Rattle.std.proofs.Common.{◌≡◌, ℕ, inl, inr, ◌<◌, ◌^◌, List, [], ◌∷◌, ◌++◌, length, get_or, arith, refl, ap}
+use Rattle.std.proofs.Common.{◌≡◌, ℕ, ◌<◌, ◌^◌, List, [], ◌∷◌, ◌++◌, refl}
 use Rattle.std.specs.Fmt.{decimal}
-use Rattle.std.specs.Str.Parse.{AllDigits, digits_value}
-use Rattle.std.proofs.lemmas.Bool.{cases_lt}
-use Rattle.std.proofs.lemmas.Fmt.{decimal_is_IsNumeral, decimal_injective, first_decimal, decimal_digit, decimal_nonempty}
-use Rattle.std.proofs.lemmas.Str.Parse.{IsNumeralModel, numerals_by_value, tells_digits, digit_at, digit_from_value}
-use Rattle.line_streams.specs.Spelling.{EndsNumber, IsDigit}
+use Rattle.std.specs.Str.Parse.{AllDigits}
+use Rattle.std.proofs.lemmas.Fmt.{decimal_is_IsNumeral, decimal_injective}
+use Rattle.std.proofs.lemmas.Str.Parse.{digit_from_value}
+use Rattle.line_streams.specs.Spelling.{EndsNumber}
 
 pub cons_same : {A : Type 0} {x y : A} {xs ys : List A} → x ∷ xs ≡ y ∷ ys → (x ≡ y) × (xs ≡ ys)
 cons_same e = (cc, cc)
-
--- digits write their number
-pub own : IsNumeralModel (AllDigits 10) (digits_value 10)
-own = numerals_by_value (AllDigits 10) tells_digits
-
-pub decimal_first : (n : ℕ) → n < 2 ^ 64 → IsDigit (get_or (decimal n) 0 0)
-decimal_first n h = digit_at (decimal n) 0 (decimal_is_IsNumeral n h).0.1 (decimal_nonempty n h)
-
--- a number that begins with a zero is 0
-pub decimal_no_zero : (n : ℕ) → n < 2 ^ 64 → get_or (decimal n) 0 0 ≡ 48 → length (decimal n) ≡ 1
-decimal_no_zero n h e = elim (cases_lt 0 n) [
-  | inl above ↦ let more = first_decimal n above h in absurd (omega arith)
-  | inr none ↦
-      let zero : n ≡ 0 = omega arith in rw zero (ap length (decimal_digit 0 (omega arith)))
-]
 
 digits_of : (n : ℕ) → n < 2 ^ 64 → AllDigits 10 (decimal n)
 digits_of n h = (decimal_is_IsNumeral n h).0.1

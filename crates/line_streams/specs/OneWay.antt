@@ -1,29 +1,13 @@
 -- No two values of a phrase have one text.
-use Rattle.std.proofs.Common.{◌≡◌, ◌≢◌, ℕ, List, [], ◌∷◌, ◌++◌, sym, refl, ◌∙◌, ap}
+use Rattle.std.proofs.Common.{◌≡◌, ℕ, List, [], ◌∷◌, sym, refl, ◌∙◌, ap}
 use Rattle.std.proofs.lemmas.List.{append_cancel_left}
-use Rattle.std.proofs.lemmas.List.Elements.{All-head, All-tail}
 use Rattle.line_streams.specs.declared.phrase.LineEnd.{LineEnd}
 use Rattle.line_streams.specs.declared.phrase.LineEnd.TheVariants.{Newline, Bytes}
-use Rattle.line_streams.specs.Spelling.{Spelling, OneWay, OthersFit, others_text, number, HasNo, before, line_end, sequence, after, listed}
+use Rattle.line_streams.specs.Spelling.{Spelling, OneWay, OthersFit, others_text, number, line_end, sequence, after, listed}
 use Rattle.line_streams.specs.Numerals.{cons_same, same_number}
 
 pub number_one : (most : ℕ) → OneWay (number most)
 number_one most = record { same = λ a b p q e. same_number a.0 b.0 a.1 b.1 p.1 q.1 p.2 q.2 e }
-
-pub before_one : (byte : ℕ) → OneWay (before byte)
-before_one byte = record { same = λ a b p q e. same a.0 b.0 a.1 b.1 p q e }
-  where
-    same : (v w x y : List ℕ) → HasNo byte v → HasNo byte w → v ++ byte ∷ x ≡ w ++ byte ∷ y
-        → (v ≡ w) × (x ≡ y)
-    same [] [] x y p q e = (refl, (cons_same e).1)
-    same [] (b ∷ w) x y p q e =
-        absurd (All-head (λ c. c ≢ byte) b w q (sym (cons_same e).0))
-    same (a ∷ v) [] x y p q e = absurd (All-head (λ c. c ≢ byte) a v p (cons_same e).0)
-    same (a ∷ v) (b ∷ w) x y p q e =
-        let both = cons_same e in
-        let rest = same v w x y (All-tail (λ c. c ≢ byte) a v p)
-        (All-tail (λ c. c ≢ byte) b w q) both.1 in
-        (rw (both.0, rest.0) refl, rest.1)
 
 pub line_end_one : (end : LineEnd) → OneWay (line_end end)
 line_end_one Newline = record { same = λ a b p q e. (refl, (cons_same e).1) }

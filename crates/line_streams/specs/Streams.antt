@@ -35,6 +35,16 @@ abbrev pub Fails : {W : Type 0} → (W → List ℕ → Result ℕ Error → W �
     → (W → Error → W → Type 0) → W → Error → Type 0
 Fails {W} writes fails now e = WriteFails writes now e ⊎ ((before : W) × fails before e now)
 
+-- Of a program's streams, one failed with this error, and nothing was done to it afterwards. Where
+-- that was a read, nothing was written.
+abbrev pub StreamFails : {R W E : Type 0} → (R → Error → R → Type 0)
+    → (W → List ℕ → Result ℕ Error → W → Type 0) → (W → Error → W → Type 0)
+    → (E → List ℕ → Result ℕ Error → E → Type 0) → (E → Error → E → Type 0)
+    → R → W → W → E → E → Error → Type 0
+StreamFails reads out_writes out_flushes err_writes err_flushes reader out_old out_new err_old
+    err_new e = (ReadFails reads reader e × (out_new ≡ out_old) × (err_new ≡ err_old))
+    ⊎ (Fails out_writes out_flushes out_new e ⊎ Fails err_writes err_flushes err_new e)
+
 -- `a stream failed` was written, or a write of it failed
 abbrev pub ReportsFailure : {W : Type 0} → (W → Option (List ℕ))
     → (W → List ℕ → Result ℕ Error → W → Type 0) → W → W → Type 0

@@ -10,7 +10,7 @@ ghost use Rattle.std.specs.Io.KnownBytes.{Appends, IsAtEnd, Keeps, ReadConsumes,
 ghost use Rattle.std.specs.declared.io.Error.{Error};
 ghost use Rattle.line_streams.specs.Filters.{Ran, either, status_number};
 ghost use Rattle.line_streams.specs.Streams.{AppendsBeginning, ConsumesSome, Fails, IsFlushed};
-ghost use Rattle.line_streams.specs.Streams.{ReadFails, ReportsFailure, WriteFails};
+ghost use Rattle.line_streams.specs.Streams.{ReadFails, ReportsFailure, StreamFails, WriteFails};
 
 use std::alloc::{AllocError, Global};
 use std::io;
@@ -304,10 +304,8 @@ where
     ensures flushed { OnOk result
         (IsFlushed W.Flushes output.new × IsFlushed E.Flushes errors.new) }
     // Where the read failed, nothing was written.
-    ensures failed { IfErr result (λ e. (ReadFails R.FailsBy input.new e
-        × (output.new ≡ output.old) × (errors.new ≡ errors.old))
-        ⊎ (Fails W.Writes W.FailsToFlush output.new e
-        ⊎ Fails E.Writes E.FailsToFlush errors.new e)) }
+    ensures failed { IfErr result (StreamFails R.FailsBy W.Writes W.FailsToFlush E.Writes
+        E.FailsToFlush input.new output.old output.new errors.old errors.new) }
 {
     let outcome = work(read_all(alloc, input)?);
     write_outcome(output, errors, &outcome)

@@ -5,7 +5,8 @@ use Rattle.std.proofs.lemmas.Fmt.{decimal_injective}
 use Rattle.std.proofs.lemmas.List.{append-nil, append_assoc, append_cancel_left}
 use Rattle.iox2_container.specs.declared.container.handle.Role.{Role}
 use Rattle.iox2_container.specs.declared.container.handle.Role.TheVariants as role
-use Rattle.line_streams.specs.Numerals.{cons_same, decimal_first, same_number}
+use Rattle.line_streams.proofs.Fronts.{decimal_first}
+use Rattle.line_streams.specs.Numerals.{cons_same, same_number}
 use Rattle.line_streams.specs.Spelling.{IsDigit}
 use Rattle.service_descriptions.specs.declared.replay.machine.command.Cleanup.TheVariants.{ByPort}
 use Rattle.service_descriptions.specs.declared.replay.machine.command.Command.{Command}

@@ -2,9 +2,10 @@
 use Rattle.std.proofs.Common.{◌≡◌, ◌≢◌, ℕ, ◌<◌, ◌^◌, List, [], ◌∷◌, ◌++◌, Some, None, Vec, arith, refl, sym, ◌∙◌, ap, subst, append_assoc, codes, map, get_or}
 use Rattle.std.specs.Prelude.{◌==◌, if◌then◌else◌}
 use Rattle.std.specs.declared.alloc.Global.{Global}
-use Rattle.service_descriptions.proofs.Names.{AllByRecursion, join_with_byte, PortDetails, Newline, Bytes, Nowhere, reads_after, reads_then, number_one, line_end_one, sequence_one, after_one, Spelling, OneWay, Reads, Lacks, EndsNumber, OthersFit, others_text, number, line_end, sequence, after, ByPort, Command, id_text, IsId, line_of, line_text, HasLine, IsLine, SameCommand, skip_words, dead_one, node_id_one, role_one, port_one, id_phrase, node_id_phrase, dead_phrase, three_phrase, spelled_of, PatternKind, ServiceLine, pattern_one, service_line, IsServiceLine, service_front, pattern_phrase}
+use Rattle.service_descriptions.proofs.Names.{AllByRecursion, join_with_byte, PortDetails, Newline, Bytes, Nowhere, reads_after, reads_then, number_one, line_end_one, sequence_one, after_one, Spelling, OneWay, Reads, Lacks, EndsNumber, OthersFit, others_text, number, line_end, sequence, after, ByPort, Command, id_text, IsId, line_of, line_text, HasLine, IsLine, SameCommand, skip_words, id_one, node_id_one, role_one, port_one, id_phrase, node_id_phrase, three_phrase, spelled_of, PatternKind, ServiceLine, pattern_one, service_line, IsServiceLine, service_front, pattern_phrase}
 use Rattle.line_streams.specs.declared.phrase.LineEnd.{LineEnd}
 use Rattle.line_streams.specs.Numerals.{cons_same}
+use Rattle.line_streams.specs.OneWay.{listed_one}
 use Rattle.line_streams.specs.Spelling.{listed}
 use Rattle.service_descriptions.specs.declared.replay.machine.command.Command.TheVariants as command
 
@@ -17,6 +18,16 @@ any_one = number_one 18446744073709551615
 
 pub any_fits : (n : ℕ) (rest : List ℕ) → n < 2 ^ 64 → EndsNumber rest → any_number.Fits (n, rest)
 any_fits n rest small ends = (omega (arith, small), small, ends)
+
+-- the ports that stay, and before them the dead node
+abbrev pub kept_phrase : Spelling (List ℕ)
+kept_phrase = listed (codes " skip ") 32 id_phrase
+
+abbrev pub dead_phrase : Spelling (ℕ × List ℕ)
+dead_phrase = sequence node_id_phrase kept_phrase
+
+pub dead_one : OneWay dead_phrase
+dead_one = sequence_one node_id_one (listed_one (codes " skip ") 32 id_one)
 
 -- the commands that have a line
 pub data Kind : Type 0 where
@@ -84,9 +95,6 @@ seen _ = tt
 -- a line of a kind: its word, and what follows it
 abbrev pub line : LineEnd → (k : Kind) → Spelling (form k).Seen
 line end k = after (form k).word ((form k).phrase end)
-
-abbrev pub kept_phrase : Spelling (List ℕ)
-kept_phrase = listed (codes " skip ") 32 id_phrase
 
 -- what follows the name of a port
 join_ports : (word : List ℕ) (ports rest : List ℕ)

@@ -13,9 +13,9 @@ pub use Rattle.service_descriptions.specs.Steps.{CleanedUp, Cleans, ServesDead, 
 pub use Rattle.service_descriptions.specs.Descriptions.{ServesCompatible, ServesLayout, ServesMessages, ServesPlaces, ServesVerify}
 pub use Rattle.service_descriptions.specs.Fields.{IsSound, described, session_of, IsGiven, KeepsHandles, handle_at, handles_in, tickets_of}
 pub use Rattle.service_descriptions.specs.Laws.{IsBadAtOneLine, IsGoodOrBad, LinesSpellOneCommand, LinesSpellOneService, RunsJoin}
-pub use Rattle.service_descriptions.specs.LineAnswers.{LineStep, PutsText, PutsWord, ServesLine, StandsFor, WritesLine, Written, handle_given, kind_text, ports_text}
+pub use Rattle.service_descriptions.specs.LineAnswers.{LineStep, PutsText, PutsWord, StandsFor, WritesLine, Written, handle_given, kind_text, ports_text}
 pub use Rattle.service_descriptions.specs.Lines.{HasLine, IsId, IsLine, SameCommand, command_of, id_text, line_of, line_text, skip_words, value_of}
-pub use Rattle.service_descriptions.specs.Phrases.{dead_one, dead_phrase, id_one, id_phrase, node_id_one, node_id_phrase, pattern_one, pattern_phrase, port_one, role_one, spelled_of, three_fit, three_phrase}
+pub use Rattle.service_descriptions.specs.Phrases.{id_one, id_phrase, node_id_one, node_id_phrase, pattern_one, pattern_phrase, port_one, role_one, spelled_of, three_fit, three_phrase}
 pub use Rattle.service_descriptions.specs.Prelude.{AllByRecursion, ByPort, Command, ContainerState, DeadStep, DeregisterNodeState, DeregisterStep, Description, EndsNumber, Handle, IsService, LacksRole, OneWay, PatternKind, PortDetails, Reads, Reply, Role, Service, ServiceLine, Spelling, Verifies, after, decimal, flat_map, join_with_byte, line_end, list_any, listed, node_of, number, owner_of, port_of, port_value, sequence}
 pub use Rattle.service_descriptions.specs.Replies.{IsSameReply, id_word, port_word, reply_line, reply_of}
 pub use Rattle.service_descriptions.specs.Script.{HasService, IsServiceLine, RanLines, command_line, service_front, service_line}

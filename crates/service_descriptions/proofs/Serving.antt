@@ -4,7 +4,7 @@ use Rattle.std.proofs.Common.{◌≡◌, ℕ, ◌<◌, ◌≤◌, Bool, true, fa
 use Rattle.std.specs.Prelude.{IfSome, MatchResult, ok_or}
 use Rattle.iox2_texts.specs.Verify.{Requirements}
 use Rattle.service_descriptions.specs.Descriptions.{details_in}
-use Rattle.service_descriptions.proofs.Names.{PatternKind, ContainerAddFailure, Default, LockIfLastIndex, ReleaseState, Role, Handle, ContainerState, RegistryState, AddStep, is_of, DeregisterNodeState, PortDetails, node_of, has_ports_of, Side, of_side, other_side, First, Second, Service, IsService, AddsPort, RemovesPort, NodesAfter, Description, Cleanup, Command, Reply, CleanedUp, ServesDead, ServesVerify, ServesMessages, ServesLayout, ServesPlaces, ServesCompatible, named, tickets_of, ServesNodes, ServesList, ServesCount, ServesRegister, ServesDeregister, ServesAdd, ServesRelease, Serves, handle_in, map-append, All-push, All-weaker, Vec, DeregisterStep, reply_of_owners, Differ, IsGiven, KeepsHandles, handle_at, handles_in, IsSound, described, session_of, LineStep, ServesLine, StandsFor, handle_given, reply_of, IsState, ServiceStep, State}
+use Rattle.service_descriptions.proofs.Names.{PatternKind, ContainerAddFailure, Default, LockIfLastIndex, ReleaseState, Role, Handle, ContainerState, RegistryState, AddStep, is_of, DeregisterNodeState, PortDetails, node_of, has_ports_of, Side, of_side, other_side, First, Second, Service, IsService, AddsPort, RemovesPort, NodesAfter, Description, Cleanup, Command, Reply, CleanedUp, ServesDead, ServesVerify, ServesMessages, ServesLayout, ServesPlaces, ServesCompatible, named, tickets_of, ServesNodes, ServesList, ServesCount, ServesRegister, ServesDeregister, ServesAdd, ServesRelease, Serves, handle_in, map-append, All-push, All-weaker, Vec, DeregisterStep, reply_of_owners, Differ, IsGiven, KeepsHandles, handle_at, handles_in, IsSound, described, session_of, LineStep, StandsFor, handle_given, reply_of, IsState, ServiceStep, State}
 use Rattle.iox2_config.specs.declared.hash.input.PatternKind.TheVariants as kind
 use Rattle.iox2_config.specs.declared.types.message_details.MessageTypeDetails.{MessageTypeDetails}
 use Rattle.iox2_container.specs.declared.container.registry.ContainerAddFailure.TheVariants as container
@@ -367,6 +367,13 @@ served about old service earlier cell c r sound is_service s reported more =
 -- what sound fields stand for is a state
 pub sound_state : (s : Inside) → IsSound s → IsState (session_of s)
 sound_state s sound = record { is_service = sound.is_service; differ = sound.keeps.differ }
+
+-- how a service answers a command that has a line: where it is listed, it stays the same
+abbrev pub ServesLine : Service → Option Description → List (Option Handle) → Command → LineAnswer
+    → Service → Type 0
+ServesLine old about handles c (answer.Reply r) new = Serves old about handles c (reply_of r) new
+ServesLine old about handles c answer.Nodes new = (c ≡ command.Nodes) × (new ≡ old)
+ServesLine old about handles c (answer.Ports role) new = (c ≡ command.List role) × (new ≡ old)
 
 -- an answer moves a service on
 line_moves : (old : Service) (about : Option Description) (handles : List (Option Handle))

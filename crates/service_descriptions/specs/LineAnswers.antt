@@ -1,13 +1,12 @@
 -- What answers commands that have a line, and how the lines of lists grow.
 use Rattle.std.specs.Prelude.{◌≡◌, ℕ, Bool, true, false, List, ◌++◌, Option, None, Result, Ok, OnOk, OnErr, length, take}
-use Rattle.service_descriptions.specs.Prelude.{flat_map, ContainerState, Handle, listed, PortDetails, Ports, Service, Description, Command, Reply}
+use Rattle.service_descriptions.specs.Prelude.{flat_map, ContainerState, Handle, listed, PortDetails, Ports, Service, Command, Reply}
 use Rattle.std.specs.declared.alloc.AllocError.{AllocError}
 use Rattle.iox2_texts.specs.declared.bounded.CallbackProgression.{CallbackProgression}
 use Rattle.iox2_texts.specs.declared.bounded.CallbackProgression.TheVariants.{Continue, Stop}
-use Rattle.service_descriptions.specs.declared.replay.machine.command.Command.TheVariants as command
 use Rattle.service_descriptions.specs.declared.replay.machine.reply.LineAnswer.{LineAnswer}
 use Rattle.service_descriptions.specs.declared.replay.machine.reply.LineAnswer.TheVariants as answer
-use Rattle.service_descriptions.specs.Steps.{ServesNodes, ServesList, Serves, ServiceStep, State, handle_in}
+use Rattle.service_descriptions.specs.Steps.{ServesNodes, ServesList, ServiceStep, State, handle_in}
 use Rattle.service_descriptions.specs.Replies.{port_word, reply_line, reply_of}
 
 -- the replies that an answer stands for: what is listed is read off the service
@@ -20,13 +19,6 @@ StandsFor s (answer.Ports role) reply = ServesList s role reply
 abbrev pub handle_given : LineAnswer → Option Handle
 handle_given (answer.Reply r) = handle_in (reply_of r)
 handle_given _ = None
-
--- how a service answers a command that has a line: where it is listed, it stays the same
-abbrev pub ServesLine : Service → Option Description → List (Option Handle) → Command → LineAnswer
-    → Service → Type 0
-ServesLine old about handles c (answer.Reply r) new = Serves old about handles c (reply_of r) new
-ServesLine old about handles c answer.Nodes new = (c ≡ command.Nodes) × (new ≡ old)
-ServesLine old about handles c (answer.Ports role) new = (c ≡ command.List role) × (new ≡ old)
 
 -- each reply that the answer stands for may be given to the command
 abbrev pub LineStep : State → Command → LineAnswer → State → Type 0

@@ -1,15 +1,14 @@
 -- The texts of the words of lines, each with what follows it, and that no two values have one word.
-use Rattle.std.specs.Prelude.{◌≢◌, ℕ, List, ◌∷◌, ◌++◌, codes, ◌==◌, if◌then◌else◌, Some}
-use Rattle.service_descriptions.specs.Prelude.{PatternKind, pattern_word, Role, PortDetails, role_of, node_of, port_of, port_value, Spelling, EndsNumber, number, sequence, after, packed, process_of, seconds_of, nanoseconds_of, counter_of, OneWay, Reads}
+use Rattle.std.specs.Prelude.{◌≢◌, ℕ, List, ◌∷◌, ◌++◌, codes, ◌==◌, if◌then◌else◌}
+use Rattle.service_descriptions.specs.Prelude.{PatternKind, pattern_word, Role, PortDetails, role_of, node_of, port_of, port_value, Spelling, EndsNumber, number, sequence, after, packed, process_of, seconds_of, nanoseconds_of, counter_of, OneWay}
 use Rattle.iox2_container.specs.declared.container.handle.Role.TheVariants as role
-use Rattle.line_streams.specs.Spelling.{listed}
 use Rattle.service_descriptions.specs.Lines.{id_text, IsId, IsNodeId, role_word, IsPlain, plain}
 use Rattle.std.proofs.Common.{◌≡◌, get_or, arith, refl, sym, ◌∙◌, ap, subst, append_assoc}
 use Rattle.iox2_config.specs.declared.hash.input.PatternKind.TheVariants as pattern
 use Rattle.iox2_dynamic.specs.declared.dynamic_config.port_details.PortDetails.TheVariants as of
 use Rattle.std.proofs.lemmas.List.{append_cancel_left}
 use Rattle.line_streams.specs.Numerals.{cons_same}
-use Rattle.line_streams.specs.OneWay.{number_one, sequence_one, after_one, listed_one}
+use Rattle.line_streams.specs.OneWay.{number_one, sequence_one, after_one}
 
 -- an id of any kind
 abbrev pub id_phrase : Spelling ℕ
@@ -24,10 +23,6 @@ node_id_phrase = record {
   Fits = λ front. IsNodeId front.0 × EndsNumber front.1;
   text = λ front. id_text front.0 ++ front.1;
 }
-
--- a dead node, and the ports that stay
-abbrev pub dead_phrase : Spelling (ℕ × List ℕ)
-dead_phrase = sequence node_id_phrase (listed (codes " skip ") 32 id_phrase)
 
 -- the parts of an id, joined by dots
 abbrev pub parts_phrase : Spelling (ℕ × (ℕ × (ℕ × ℕ)))
@@ -91,26 +86,6 @@ parts_fit id rest fits ends = (
   ),
 )
 
--- parts that were read are those of an id
-pub id_found : (p s n c : ℕ) (rest bytes : List ℕ)
-    → Reads parts_phrase.Fits parts_phrase.text (Some ((p, (s, (n, c))), rest)) bytes
-    → Reads id_phrase.Fits id_phrase.text (Some (packed p s n c, rest)) bytes
-id_found p s n c rest bytes read =
-    let id = packed p s n c in
-    let a = read.0.0.0 in
-    let b = read.0.1.0.0 in
-    let d = read.0.1.1.0.0 in
-    let e = read.0.1.1.1.0 in
-    let process : process_of id ≡ p = omega (arith, a, b, d, e) in
-    let seconds : seconds_of id ≡ s = omega (arith, a, b, d, e) in
-    let nanoseconds : nanoseconds_of id ≡ n = omega (arith, a, b, d, e) in
-    let counter : counter_of id ≡ c = omega (arith, a, b, d, e) in
-    let same : parts_of id ≡ (p, (s, (n, c))) =
-    rw (process, seconds, nanoseconds, counter) refl in (
-      (omega (arith, a, b, d, e), read.0.1.1.1.2),
-      read.1 ∙ sym (id_then id rest ∙ ap (λ v. parts_phrase.text (v, rest)) same),
-    )
-
 parts_one : OneWay parts_phrase
 parts_one =
     let part = number_one 4294967295 in
@@ -128,9 +103,6 @@ id_one = record {
 
 pub node_id_one : OneWay node_id_phrase
 node_id_one = record { same = λ a b p q e. id_one.same a b (p.0.0, p.1) (q.0.0, q.1) e }
-
-pub dead_one : OneWay dead_phrase
-dead_one = sequence_one node_id_one (listed_one (codes " skip ") 32 id_one)
 
 -- what distinguishes roles: the first two bytes
 abbrev role_by : List ℕ → Role

@@ -3,7 +3,8 @@ use Rattle.std.proofs.Common.{◌≡◌, ℕ, ◌<◌, ◌^◌, List, [], ◌∷
 use Rattle.std.specs.Fmt.{decimal}
 use Rattle.std.proofs.lemmas.List.{append_cancel_left}
 use Rattle.line_streams.specs.Numerals.{cons_same}
-use Rattle.line_streams.specs.OneWay.{after_one, before_one, number_one, sequence_one}
+use Rattle.line_streams.specs.OneWay.{after_one, number_one, sequence_one}
+use Rattle.line_streams.proofs.Indices.{before_one}
 use Rattle.line_streams.specs.Spelling.{EndsNumber, HasNo, OneWay, Spelling, after, number, sequence}
 use Rattle.service_drawing.specs.Lines.{IsPlain, IsLine, HasLine, HasOpener, IsDescribed, AreAlignments, type_text, alignments_text, variant_word, MayBeNamed, IsInternal}
 use Rattle.std.specs.Prelude.{◌==◌}

@@ -1,6 +1,6 @@
 //! Why nothing was drawn, and how it is reported.
 ghost use Rattle.std.specs.Prelude.{◌≡◌, [], ℕ, List, Some, ◌+◌, ◌++◌, ◌==◌, count_by};
-ghost use Rattle.service_drawing.specs.Streams.{bad_line_text, cause_text, fault_text};
+ghost use Rattle.service_drawing.specs.Streams.{cause_text, fault_text};
 ghost use Rattle.service_drawing.specs.Streams.{ReportsBadLine, fault_status};
 
 use crate::reading::Expected;

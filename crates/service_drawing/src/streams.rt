@@ -6,7 +6,7 @@ ghost use Rattle.service_drawing.specs.Streams.{IsRequest, IsRequestOf, words_of
 ghost use Rattle.service_drawing.specs.Streams.{IsTextOrNoMemory, Draws, Answers, Reported};
 ghost use Rattle.service_drawing.specs.Streams.{RequestsDrawing};
 ghost use Rattle.std.specs.Io.KnownBytes.{IsAtEnd};
-ghost use Rattle.line_streams.specs.Streams.{Fails, IsFlushed, ReadFails};
+ghost use Rattle.line_streams.specs.Streams.{IsFlushed, ReadFails, StreamFails};
 
 use crate::fault::{Fault, bad_line};
 use crate::reading::read_description;
@@ -249,10 +249,8 @@ fn run<R: Source, W: Sink, E: Sink>(
         (E.contents errors.old) (E.contents errors.new)) }
     ensures flushed { OnOk result
         (IsFlushed W.Flushes output.new × IsFlushed E.Flushes errors.new) }
-    ensures failed { IfErr result (λ e. (ReadFails R.FailsBy input.new e
-        × (output.new ≡ output.old) × (errors.new ≡ errors.old))
-        ⊎ (Fails W.Writes W.FailsToFlush output.new e
-        ⊎ Fails E.Writes E.FailsToFlush errors.new e)) }
+    ensures failed { IfErr result (StreamFails R.FailsBy W.Writes W.FailsToFlush E.Writes
+        E.FailsToFlush input.new output.old output.new errors.old errors.new) }
     // Nothing was read but for a drawing.
     ensures unread { (input.new ≡ input.old) ⊎ RequestsDrawing arguments }
 {
@@ -290,10 +288,8 @@ pub fn describe_streams<R: Source, W: Sink, E: Sink>(
     ensures flushed { result < 3
         → IsFlushed W.Flushes output.new × IsFlushed E.Flushes errors.new }
     // A read, a write or a flush failed, and that stream was left as it was then.
-    ensures failed { result ≡ 3 → (e : Error) × ((ReadFails R.FailsBy input.new e
-        × (output.new ≡ output.old) × (errors.new ≡ errors.old))
-        ⊎ (Fails W.Writes W.FailsToFlush output.new e
-        ⊎ Fails E.Writes E.FailsToFlush errors.new e)) }
+    ensures failed { result ≡ 3 → (e : Error) × StreamFails R.FailsBy W.Writes W.FailsToFlush
+        E.Writes E.FailsToFlush input.new output.old output.new errors.old errors.new e }
     // Nothing was read but for a drawing.
     ensures unread { (input.new ≡ input.old) ⊎ RequestsDrawing arguments }
 {

@@ -1,5 +1,4 @@
 //! A service as a picture.
-ghost use Rattle.std.specs.Prelude.{◌<◌};
 
 mod message;
 

@@ -1,10 +1,10 @@
 //! The program: files come by their names, and what is answered to a request goes to writers.
-ghost use Rattle.std.specs.Prelude.{◌≡◌, ◌<◌, ◌⊎◌, true, IfErr, IfOk, OnOk, option_copied};
+ghost use Rattle.std.specs.Prelude.{◌≡◌, ◌<◌, ◌⊎◌, IfErr, IfOk, OnOk, option_copied};
 ghost use Rattle.std.specs.Prelude.{option_map, string_bytes};
 ghost use Rattle.std.specs.Bool.{MatchBool};
 ghost use Rattle.std.specs.Io.KnownBytes.{IsAtEnd};
 ghost use Rattle.line_streams.specs.Filters.{Ends, RefusesMemory, status_number};
-ghost use Rattle.line_streams.specs.Streams.{Fails, IsFlushed, ReadFails};
+ghost use Rattle.line_streams.specs.Streams.{IsFlushed, ReadFails, StreamFails};
 ghost use Rattle.settings_check.specs.Answer.{status_of, IsChecked, IsTextOf, IsShown};
 ghost use Rattle.settings_check.specs.Answer.{AreToml, AnswersFiles, omitted_in, with_compared};
 ghost use Rattle.settings_check.specs.Answer.{IsDefaultAnswer, IsRefusedAnswer, IsSchemaAnswer, IsTextAnswer, Answers};
@@ -320,10 +320,8 @@ fn run<R: Source, W: Sink, E: Sink, F: Files>(
         (E.contents errors.old) (E.contents errors.new)) }
     ensures flushed { OnOk result
         (IsFlushed W.Flushes output.new × IsFlushed E.Flushes errors.new) }
-    ensures failed { IfErr result (λ e. (ReadFails R.FailsBy input.new e
-        × (output.new ≡ output.old) × (errors.new ≡ errors.old))
-        ⊎ (Fails W.Writes W.FailsToFlush output.new e
-        ⊎ Fails E.Writes E.FailsToFlush errors.new e)) }
+    ensures failed { IfErr result (StreamFails R.FailsBy W.Writes W.FailsToFlush E.Writes
+        E.FailsToFlush input.new output.old output.new errors.old errors.new) }
 {
     let parsed = request_of(alloc, arguments);
     let end = answered(alloc, coloured, files, &parsed, input)?;
@@ -363,10 +361,8 @@ pub fn check_streams<R: Source, W: Sink, E: Sink, F: Files>(
     ensures failed { result ≡ 3
         → RefusesMemory (W.contents output.old) (W.contents output.new)
         (E.contents errors.old) (E.contents errors.new)
-        ⊎ ((e : Error) × ((ReadFails R.FailsBy input.new e
-        × (output.new ≡ output.old) × (errors.new ≡ errors.old))
-        ⊎ (Fails W.Writes W.FailsToFlush output.new e
-        ⊎ Fails E.Writes E.FailsToFlush errors.new e))) }
+        ⊎ ((e : Error) × StreamFails R.FailsBy W.Writes W.FailsToFlush E.Writes E.FailsToFlush
+        input.new output.old output.new errors.old errors.new e) }
 {
     run(alloc, coloured, arguments, files, input, output, errors).unwrap_or(3)
 }

@@ -1,9 +1,8 @@
 //! Logs that come from a stream.
-ghost use Rattle.std.specs.Prelude.{◌≡◌, ◌<◌, ◌⊎◌, IfErr, IfOk, IfSome, OnOk};
+ghost use Rattle.std.specs.Prelude.{◌≡◌, ◌<◌, IfErr, IfOk, IfSome, OnOk};
 ghost use Rattle.std.specs.Io.KnownBytes.{IsAtEnd};
-ghost use Rattle.std.specs.declared.io.Error.{Error};
-ghost use Rattle.line_streams.specs.Filters.{Ends, RefusesMemory};
-ghost use Rattle.line_streams.specs.Streams.{Fails, IsFlushed, ReadFails, ReportsFailure};
+ghost use Rattle.line_streams.specs.Filters.{Ends, GivesUp};
+ghost use Rattle.line_streams.specs.Streams.{IsFlushed, StreamFails};
 ghost use Rattle.history_logs.specs.Logs.{Judged};
 ghost use Rattle.history_logs.specs.Orders.{IsTextOf, Reported};
 ghost use Rattle.history_logs.specs.Progress.{AddsCounts};
@@ -130,10 +129,8 @@ fn run<R: Source, W: Sink, E: Sink, P: Progress>(
     ensures flushed { OnOk result
         (IsFlushed W.Flushes output.new × IsFlushed E.Flushes errors.new) }
     ensures read { IfOk result (λ status. status < 3 → IsAtEnd (R.remaining input.new)) }
-    ensures failed { IfErr result (λ e. (ReadFails R.FailsBy input.new e
-        × (output.new ≡ output.old) × (errors.new ≡ errors.old))
-        ⊎ (Fails W.Writes W.FailsToFlush output.new e
-        ⊎ Fails E.Writes E.FailsToFlush errors.new e)) }
+    ensures failed { IfErr result (StreamFails R.FailsBy W.Writes W.FailsToFlush E.Writes
+        E.FailsToFlush input.new output.old output.new errors.old errors.new) }
     ensures progress { AddsCounts (P.contents progress.old) (P.contents progress.new) }
 {
     let end = match read_all(alloc, input)? {
@@ -178,13 +175,8 @@ pub fn check_streams<R: Source, W: Sink, E: Sink, P: Progress>(
     ensures read { result < 3 → IsAtEnd (R.remaining input.new) }
     // Memory was refused, or a read, a write or a flush failed, and that was reported. Where the
     // read failed, nothing was written before that.
-    ensures failed { result ≡ 3
-        → RefusesMemory (W.contents output.old) (W.contents output.new)
-        (E.contents errors.old) (E.contents errors.new)
-        ⊎ ((e : Error) × (before : E) × ReportsFailure E.contents E.Writes before errors.new
-        × ((ReadFails R.FailsBy input.new e × (output.new ≡ output.old) × (before ≡ errors.old))
-        ⊎ (Fails W.Writes W.FailsToFlush output.new e
-        ⊎ Fails E.Writes E.FailsToFlush before e))) }
+    ensures failed { result ≡ 3 → GivesUp R.FailsBy W.contents W.Writes W.FailsToFlush E.contents
+        E.Writes E.FailsToFlush input.new output.old output.new errors.old errors.new }
     // Progress wrote counts of lines, and nothing else.
     ensures progress { AddsCounts (P.contents progress.old) (P.contents progress.new) }
 {

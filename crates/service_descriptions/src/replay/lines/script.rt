@@ -1,8 +1,8 @@
 //! Scripts, whole or from a stream.
-ghost use Rattle.std.specs.Prelude.{◌≡◌, ◌++◌, ◌<◌, ◌⊎◌, [], List, ℕ, IfErr, IfOk, IfSome, OnErr};
+ghost use Rattle.std.specs.Prelude.{◌≡◌, ◌++◌, ◌<◌, [], List, ℕ, IfErr, IfOk, IfSome, OnErr};
 ghost use Rattle.std.specs.Io.KnownBytes.{IsAtEnd};
 ghost use Rattle.std.specs.Option.{option_map};
-ghost use Rattle.line_streams.specs.Streams.{Fails, IsFlushed, ReadFails};
+ghost use Rattle.line_streams.specs.Streams.{IsFlushed, StreamFails};
 ghost use Rattle.service_descriptions.specs.declared.replay.lines.script.ScriptError.TheVariants.{NoMemory};
 ghost use Rattle.service_descriptions.specs.Script.{LinesEnd, RanLine, Scripted};
 ghost use Rattle.service_descriptions.specs.Script.{error_text, status_of, Reported};
@@ -222,10 +222,8 @@ pub fn run_streams<R: Source, W: Sink, E: Sink>(
     ensures flushed { result < 3
         → IsFlushed W.Flushes output.new × IsFlushed E.Flushes errors.new }
     // A read, a write or a flush failed, and that stream was left as it was then.
-    ensures failed { result ≡ 3 → (e : Error) × ((ReadFails R.FailsBy input.new e
-        × (output.new ≡ output.old) × (errors.new ≡ errors.old))
-        ⊎ (Fails W.Writes W.FailsToFlush output.new e
-        ⊎ Fails E.Writes E.FailsToFlush errors.new e)) }
+    ensures failed { result ≡ 3 → (e : Error) × StreamFails R.FailsBy W.Writes W.FailsToFlush
+        E.Writes E.FailsToFlush input.new output.old output.new errors.old errors.new e }
     // All input was read, unless memory ran out.
     ensures read { result < 2 → IsAtEnd (R.remaining input.new) }
 {

@@ -1,8 +1,8 @@
-use Rattle.history_logs.proofs.Words.{AreNumbers, AreRightShort, Front, HaveShort, IsShortAbove, List, Log, Option, Service, StayAll, Watched, ap, arith, callers_of, length, log_of, refl, rules, subst, sym, waits_in, ◌+◌, ◌≡◌}
+use Rattle.history_logs.proofs.Words.{AreNumbers, AreRightShort, Front, HaveShort, List, Log, Option, Service, StayAll, Watched, ap, arith, callers_of, length, log_of, refl, rules, subst, sym, waits_in, ◌+◌, ◌≡◌}
 use Rattle.histories.proofs.Lists.{put_back}
 use Rattle.history_logs.specs.Logs.{Judged}
 use Rattle.history_logs.proofs.Above.{above_new}
-use Rattle.history_logs.proofs.Conforming.{above_sane, above_short, few_short, judged_short, no_more, numbers_stay, short_more, short_none, short_stays}
+use Rattle.history_logs.proofs.Conforming.{IsShortAbove, above_sane, above_short, few_short, judged_short, no_more, numbers_stay, short_more, short_none, short_stays}
 use Rattle.history_logs.proofs.Reports.{counts_more, no_counts}
 use Rattle.history_logs.proofs.logs.conforming.find_conforming.Goals as goal
 

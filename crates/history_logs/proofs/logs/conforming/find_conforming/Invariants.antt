@@ -1,4 +1,5 @@
-use Rattle.history_logs.proofs.Words.{AddsCounts, AreNumbers, IsShortAbove, length, log_of}
+use Rattle.history_logs.proofs.Words.{AddsCounts, AreNumbers, length, log_of}
+use Rattle.history_logs.proofs.Conforming.{IsShortAbove}
 use Rattle.history_logs.proofs.logs.conforming.find_conforming.Given as goal
 
 abbrev pub invariant-loop-text : goal.invariant-loop-text

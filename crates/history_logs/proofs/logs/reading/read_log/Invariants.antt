@@ -1,4 +1,5 @@
-use Rattle.history_logs.proofs.Words.{AddsCounts, AreNumbers, IsAbove, length, log_of}
+use Rattle.history_logs.proofs.Words.{AddsCounts, AreNumbers, length, log_of}
+use Rattle.history_logs.proofs.Above.{IsAbove}
 use Rattle.history_logs.proofs.logs.reading.read_log.Given as goal
 
 abbrev pub invariant-loop-text : goal.invariant-loop-text

@@ -1,6 +1,6 @@
 use Rattle.std.proofs.Common.{ℕ, refl, rules}
-use Rattle.service_descriptions.proofs.Names.{map-id, line_end, no_first, no_second, reads_then, dead_one, node_id_one, dead_phrase, node_id_phrase}
-use Rattle.service_descriptions.proofs.Lines.{no_line, dead_found, kept_phrase}
+use Rattle.service_descriptions.proofs.Names.{map-id, line_end, no_first, no_second, reads_then, node_id_one, node_id_phrase}
+use Rattle.service_descriptions.proofs.Lines.{no_line, dead_found, dead_one, dead_phrase, kept_phrase}
 use Rattle.service_descriptions.proofs.Lines.Kind.{DeadLine}
 use Rattle.service_descriptions.proofs.replay.lines.line.dead_before.Goals as goal
 

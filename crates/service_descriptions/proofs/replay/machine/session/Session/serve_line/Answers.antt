@@ -1,6 +1,6 @@
 use Rattle.std.proofs.Common.{◌≡◌, None, rules, subst}
-use Rattle.service_descriptions.proofs.Names.{IsService, IsSound, session_of, handles_in, LineStep, ServesLine, command_of}
-use Rattle.service_descriptions.proofs.Serving.{after, served_line, sound_state}
+use Rattle.service_descriptions.proofs.Names.{IsService, IsSound, session_of, handles_in, LineStep, command_of}
+use Rattle.service_descriptions.proofs.Serving.{ServesLine, after, served_line, sound_state}
 use Rattle.service_descriptions.proofs.replay.machine.session.Session.serve_line.Goals as goal
 use Rattle.service_descriptions.proofs.replay.machine.session.Session.serve_line.Goals.{After-push_reserved, in-Register, in-Deregister, in-Nodes, in-Add, in-Release, in-List, in-Count, in-Dead}
 
