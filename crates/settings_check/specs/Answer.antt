@@ -164,6 +164,12 @@ abbrev pub AnswersArguments : (List ℕ → Result (List ℕ) FileError → Type
 AnswersArguments Gives coloured parsed given answer =
     (bytes : List ℕ) × IsInput parsed given bytes × Answers Gives coloured bytes parsed answer
 
+-- the standard input is one of the files that the arguments request
+abbrev pub RequestsInput : Result (IntoIter (String Global) Global) Error → Type 0
+RequestsInput arguments =
+    (parsed : Result Request RequestError) × Requests arguments parsed
+    × (input_is_read parsed ≡ true)
+
 -- the arguments are a request or bad, that is answered, the writers got the answer, the status is
 -- its own, and the standard input was read to its end if it is one of the files, and else not read
 pub record Reported (Gives : List ℕ → Result (List ℕ) FileError → Type 0) (coloured : Bool)

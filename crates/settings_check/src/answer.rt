@@ -1,6 +1,6 @@
 //! The program: files come by their names, and what is answered to a request goes to writers.
 ghost use Rattle.std.specs.Prelude.{◌≡◌, ◌<◌, ◌⊎◌, IfErr, IfOk, OnOk, option_copied};
-ghost use Rattle.std.specs.Prelude.{option_map, string_bytes};
+ghost use Rattle.std.specs.Prelude.{option_map, string_bytes, true};
 ghost use Rattle.std.specs.Bool.{MatchBool};
 ghost use Rattle.std.specs.Io.KnownBytes.{IsAtEnd};
 ghost use Rattle.line_streams.specs.Filters.{Ends, RefusesMemory, status_number};
@@ -9,6 +9,7 @@ ghost use Rattle.settings_check.specs.Answer.{status_of, IsChecked, IsTextOf, Is
 ghost use Rattle.settings_check.specs.Answer.{AreToml, AnswersFiles, omitted_in, with_compared};
 ghost use Rattle.settings_check.specs.Answer.{IsDefaultAnswer, IsRefusedAnswer, IsSchemaAnswer, IsTextAnswer, Answers};
 ghost use Rattle.settings_check.specs.Answer.{reads_input, input_is_read, AnswersArguments, Reported};
+ghost use Rattle.settings_check.specs.Answer.{RequestsInput};
 ghost use Rattle.settings_check.specs.Found.{found_view, valid_view};
 
 use crate::arguments::{Request, RequestError, Task, request_of};
@@ -292,6 +293,7 @@ fn answered<R: Source, F: Files>(
         × MatchBool (input_is_read parsed.now) (IsAtEnd (R.remaining input.new))
         (R.remaining input.new ≡ R.remaining input.old))) }
     ensures failed { IfErr result (ReadFails R.FailsBy input.new) }
+    ensures unread { (input.new ≡ input.old) ⊎ (input_is_read parsed.now ≡ true) }
 {
     if !reads(parsed) {
         return Ok(respond(alloc, coloured, files, &[], parsed));
@@ -322,6 +324,7 @@ fn run<R: Source, W: Sink, E: Sink, F: Files>(
         (IsFlushed W.Flushes output.new × IsFlushed E.Flushes errors.new) }
     ensures failed { IfErr result (StreamFails R.FailsBy W.Writes W.FailsToFlush E.Writes
         E.FailsToFlush input.new output.old output.new errors.old errors.new) }
+    ensures unread { (input.new ≡ input.old) ⊎ RequestsInput arguments }
 {
     let parsed = request_of(alloc, arguments);
     let end = answered(alloc, coloured, files, &parsed, input)?;
@@ -363,6 +366,8 @@ pub fn check_streams<R: Source, W: Sink, E: Sink, F: Files>(
         (E.contents errors.old) (E.contents errors.new)
         ⊎ ((e : Error) × StreamFails R.FailsBy W.Writes W.FailsToFlush E.Writes E.FailsToFlush
         input.new output.old output.new errors.old errors.new e) }
+    // Nothing was read from `input` but where it is one of the files.
+    ensures unread { (input.new ≡ input.old) ⊎ RequestsInput arguments }
 {
     run(alloc, coloured, arguments, files, input, output, errors).unwrap_or(3)
 }
