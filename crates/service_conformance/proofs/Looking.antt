@@ -376,16 +376,14 @@ module _ (number : ℕ) where
   own_after : (s : Service) (looks : List Look)
       → own (looks_after s looks) ≡ looks_after s (own looks)
   own_after s [] = refl
-  own_after s (l ∷ looks) = cases (look_after (ids_in s l.part) l) refl
+  own_after s (l ∷ looks) = cases (own_after s looks) (look_after (ids_in s l.part) l) refl
     where
-      rest : own (looks_after s looks) ≡ looks_after s (own looks)
-      rest = own_after s looks
-
-      cases : (o : Option Look) → look_after (ids_in s l.part) l ≡ o
+      cases : own (looks_after s looks) ≡ looks_after s (own looks) → (o : Option Look)
+          → look_after (ids_in s l.part) l ≡ o
           → own (looks_after s (l ∷ looks)) ≡ looks_after s (own (l ∷ looks))
-      cases None is =
+      cases rest None is =
           by_cases _ (is_own l) (λ t. rw is (rw t (rw is rest))) (λ f. rw is (rw f rest))
-      cases (Some m) is =
+      cases rest (Some m) is =
           let same : is_own m ≡ is_own l =
           ap is_own (sym (lacking_is (seen_of (ids_in s l.part) l) m is)) in
           by_cases _ (is_own l)
