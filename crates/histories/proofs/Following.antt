@@ -1,12 +1,12 @@
 -- Windows that grow by events, fronts that go on event by event, also while replies are still to
 -- come, and verdicts.
-use Rattle.histories.proofs.Words.{[], ◌≡◌, ◌↔◌, ℕ, ◌+◌, ◌<◌, List, ◌∷◌, ◌++◌, length, take, refl, sym, ◌∙◌, ap, arith, inl, inr, append_assoc, append-nil, true, Event, Begin, End, Crash, Advance, Front, AdvancesIn, BeginsAnew, IsAdvance, IsMadeAlone, IsSameFront, begins, IsExplained, IsHistory, IsOpen, StandsAt, IsFrontOf, IsSound, Stop, Window, AgreesOn, GoesTo, IsWellFormed, BeginsWindow, IsStop, IsStopAt, VerdictsExclude, cases_order, ◌≤◌, get_or, take_all, length-take-le, take-take, take-append_seam, get_or_from_slice_get, slice_get-get_or, Cut, IsMadeNext, CutsAt, Bool, false, drop, take-append-drop, take-append-add, HasSlot, GoesOnTo, IsFrontAfter, Precedes, IsBusyFrom, IsQuiet, cases_lt}
+use Rattle.histories.proofs.Words.{[], ◌≡◌, ◌↔◌, ℕ, ◌+◌, ◌<◌, List, ◌∷◌, ◌++◌, length, take, refl, sym, ◌∙◌, ap, arith, inl, inr, append_assoc, append-nil, true, Event, Begin, End, Crash, Advance, Front, AdvancesIn, BeginsAnew, IsAdvance, IsMadeAlone, IsSameFront, begins, IsExplained, IsHistory, IsOpen, StandsAt, IsFrontOf, IsSound, Stop, Window, AgreesOn, GoesTo, IsWellFormed, BeginsWindow, IsStop, IsStopAt, ◌≤◌, get_or, take_all, length-take-le, take-take, take-append_seam, get_or_from_slice_get, slice_get-get_or, Cut, IsMadeNext, CutsAt, Bool, false, drop, take-append-drop, take-append-add, HasSlot, GoesOnTo, IsFrontAfter, Precedes, IsBusyFrom, IsQuiet, cases_lt}
 use Rattle.histories.specs.Frontier.{HasManyOrders}
 use Rattle.histories.specs.Windows.{LeadsTooFar}
 use Rattle.histories.proofs.Frontiers.{front_same}
 use Rattle.histories.proofs.Events.{begins_none, sound_none, open_parts, open_whole, quiet_both, sound_back, begins-append, stands_within, stands_take, open_inside}
 use Rattle.histories.proofs.Explaining.{explains_begin, explains_end}
-use Rattle.histories.proofs.Verdicts.{frontier_explained, frontier_refused, frontier_some, history_sound, numbered_none, formed_front, formed_history, formed_inside, formed_next, sound_formed, one_more, refused_whole}
+use Rattle.histories.proofs.Verdicts.{frontier_explained, frontier_refused, frontier_some, history_sound, numbered_none, formed_front, formed_history, formed_inside, formed_next, history_front, sound_formed, one_more}
 use Rattle.histories.specs.declared.front.Advance.TheVariants as advance
 use Rattle.histories.specs.declared.window.Stop.TheVariants as stop
 use Rattle.histories.specs.declared.window.Cut.TheVariants as cut
@@ -282,49 +282,6 @@ take_both es at e f one other =
     ap (λ n. take n es) two ∙ (take_stands _ _ _ other
     ∙ (ap (λ (l : List Event). l ++ f ∷ []) (take_stands _ at e one)
     ∙ append_assoc (take at es) (e ∷ []) (f ∷ [])))
-
--- the first events of a history are one
-pub history_front : (es : List Event) (k : ℕ) → IsHistory es → IsHistory (take k es)
-history_front es k history index event at = grind (arith, stands_take, take-take)
-
--- where too many calls are open behind one of the first events, they are in all
-pub open_front : {S : Type 0} (Step : S → ℕ → S → Type 0) (olds : List S) (es : List Event)
-    (index at : ℕ) → index ≤ length es → IsStop Step olds (take index es) at stop.ManyOpen
-    → IsStop Step olds es at stop.ManyOpen
-open_front Step olds es index at within s =
-    let inside : at < index = omega (arith, s.within, length-take-le index es within) in
-    record {
-      within = omega (arith, inside, within);
-      before = rw (take-take at index es (omega (arith, inside))) at s.before;
-      at = rw (take-take (at + 1) index es (omega (arith, inside))) at s.at;
-    }
-
--- where an order explains the events, none of them is refused
-module _ {S : Type 0} (Step : S → ℕ → S → Type 0) (olds : List S) (es : List Event)
-    (history : IsHistory es) where
-  pub not_refused : (at : ℕ) → IsExplained Step es olds → IsStop Step olds es at stop.Refused → ⊥
-  not_refused at x s = refused_whole _ _ _ _ (omega (arith, s.within)) s.at.1 history x
-
-  not_before : (index other : ℕ) → index < other → IsStop Step olds es index stop.Refused
-      → IsStop Step olds es other stop.Refused → ⊥
-  not_before index other less a b =
-      refused_whole Step (take other es) olds (index + 1)
-      (omega (arith, less, length-take-le other es (omega (arith, b.within))))
-      (rw (take-take (index + 1) other es (omega (arith, less))) a.at.1)
-      (history_front es other history) b.before
-
-pub verdicts_exclude : {S : Type 0} (Step : S → ℕ → S → Type 0) → VerdictsExclude Step
-verdicts_exclude Step olds es end window last index other history = (
-  λ a b. not_refused _ _ _ history _ a.0 b.0,
-  λ a b. elim (cases_order index other) [
-    | inl same ↦ same
-    | inr (inl less) ↦ absurd (not_before _ _ _ history _ _ less a.0 b.0)
-    | inr (inr more) ↦ absurd (not_before _ _ _ history _ _ more b.0 a.0)
-  ],
-)
-
-pub history_past : (past window : List Event) → IsHistory (past ++ window) → IsHistory past
-history_past past window history = rw (← take-append_seam past window) (history_front _ _ history)
 
 -- The events end in the window. It begins where no call was open last, or where they are never
 -- cut, its configurations are those of all orders that explain them.

@@ -1,10 +1,11 @@
 -- Histories event by event, and what their frontiers decide.
-use Rattle.histories.proofs.Words.{[], ◌≡◌, ℕ, zero, suc, ◌+◌, ◌-◌, ◌<◌, ◌≤◌, List, ◌∷◌, ◌++◌, length, take, get_or, refl, sym, ◌∙◌, arith, inl, inr, Option, add-one, add-zero, take_all, cases_lt, take-append_seam, take_more, take-append-le, slice_get-get_or, Event, Begin, End, Crash, Config, Link, begins, times, IsExplained, IsHistory, MayFollow, Agrees, EndsOpen, IsFrontier, IsSound, order_of, ap, StandsAt, length-append, subst, take-append-add, IsQuiet, IsWellFormed}
+use Rattle.histories.proofs.Words.{[], ◌≡◌, ℕ, zero, suc, ◌+◌, ◌-◌, ◌<◌, ◌≤◌, List, ◌∷◌, ◌++◌, length, take, get_or, refl, sym, ◌∙◌, arith, inl, inr, Option, add-one, add-zero, take_all, cases_lt, take-append_seam, take_more, take-append-le, slice_get-get_or, Event, Begin, End, Crash, Config, Link, begins, times, IsExplained, IsHistory, MayFollow, Agrees, EndsOpen, IsFrontier, IsSound, order_of, ap, StandsAt, length-append, subst, take-append-add, IsQuiet, IsWellFormed, IsStop, VerdictsExclude, cases_order, length-take-le, take-take}
 use Rattle.histories.specs.Histories.{begun, begins, times}
 use Rattle.histories.proofs.Lists.{not_some, split_times, times_same}
-use Rattle.histories.proofs.Events.{begin_no_end, begins_begin, begins_ends, begins_none, ends_one, sound_begin, sound_end, sound_none, stands_cases, stands_within, open_inside, stands_right, begins-append}
+use Rattle.histories.proofs.Events.{begin_no_end, begins_begin, begins_ends, begins_none, ends_one, sound_begin, sound_end, sound_none, stands_cases, stands_within, open_inside, stands_right, stands_take, begins-append}
 use Rattle.histories.proofs.Running.{leads_split}
 use Rattle.histories.proofs.Frontiers.{explains_none}
+use Rattle.histories.specs.declared.window.Stop.TheVariants as stop
 use Rattle.histories.proofs.Explaining.{explains_front, explains_open, explains_without}
 
 pub begun-append : (es fs : List Event) → begun (es ++ fs) ≡ begun es + begun fs
@@ -237,3 +238,46 @@ formed_next es fs e formed =
     stands_seam : (es : List Event) → StandsAt (es ++ e ∷ fs) (length es) e
     stands_seam [] = refl
     stands_seam (x ∷ es) = stands_seam es
+
+-- the first events of a history are one
+pub history_front : (es : List Event) (k : ℕ) → IsHistory es → IsHistory (take k es)
+history_front es k history index event at = grind (arith, stands_take, take-take)
+
+-- where too many calls are open behind one of the first events, they are in all
+pub open_front : {S : Type 0} (Step : S → ℕ → S → Type 0) (olds : List S) (es : List Event)
+    (index at : ℕ) → index ≤ length es → IsStop Step olds (take index es) at stop.ManyOpen
+    → IsStop Step olds es at stop.ManyOpen
+open_front Step olds es index at within s =
+    let inside : at < index = omega (arith, s.within, length-take-le index es within) in
+    record {
+      within = omega (arith, inside, within);
+      before = rw (take-take at index es (omega (arith, inside))) at s.before;
+      at = rw (take-take (at + 1) index es (omega (arith, inside))) at s.at;
+    }
+
+-- where an order explains the events, none of them is refused
+module _ {S : Type 0} (Step : S → ℕ → S → Type 0) (olds : List S) (es : List Event)
+    (history : IsHistory es) where
+  pub not_refused : (at : ℕ) → IsExplained Step es olds → IsStop Step olds es at stop.Refused → ⊥
+  not_refused at x s = refused_whole _ _ _ _ (omega (arith, s.within)) s.at.1 history x
+
+  not_before : (index other : ℕ) → index < other → IsStop Step olds es index stop.Refused
+      → IsStop Step olds es other stop.Refused → ⊥
+  not_before index other less a b =
+      refused_whole Step (take other es) olds (index + 1)
+      (omega (arith, less, length-take-le other es (omega (arith, b.within))))
+      (rw (take-take (index + 1) other es (omega (arith, less))) a.at.1)
+      (history_front es other history) b.before
+
+pub verdicts_exclude : {S : Type 0} (Step : S → ℕ → S → Type 0) → VerdictsExclude Step
+verdicts_exclude Step olds es end window last index other history = (
+  λ a b. not_refused _ _ _ history _ a.0 b.0,
+  λ a b. elim (cases_order index other) [
+    | inl same ↦ same
+    | inr (inl less) ↦ absurd (not_before _ _ _ history _ _ less a.0 b.0)
+    | inr (inr more) ↦ absurd (not_before _ _ _ history _ _ more b.0 a.0)
+  ],
+)
+
+pub history_past : (past window : List Event) → IsHistory (past ++ window) → IsHistory past
+history_past past window history = rw (← take-append_seam past window) (history_front _ _ history)

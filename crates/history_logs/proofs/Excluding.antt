@@ -5,7 +5,7 @@ use Rattle.std.specs.Global.{Vec}
 use Rattle.std.specs.Set.{distinct_count}
 use Rattle.std.proofs.lemmas.List.Elements.{All-contains}
 use Rattle.std.proofs.lemmas.Slice.Zip.{AllZip-long}
-use Rattle.histories.proofs.Following.{not_refused}
+use Rattle.histories.proofs.Verdicts.{not_refused}
 use Rattle.histories.proofs.Explaining.{explained_seen}
 use Rattle.iox2_dynamic.specs.Service as dynamic
 use Rattle.iox2_dynamic.specs.declared.dynamic_config.answers.DeregisterNodeState.{DeregisterNodeState}

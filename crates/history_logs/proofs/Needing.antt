@@ -6,9 +6,8 @@ use Rattle.histories.proofs.Events.{stands_right}
 use Rattle.histories.specs.Frontier.{IsIdle}
 use Rattle.histories.specs.declared.window.Stop.TheVariants as stop
 use Rattle.histories.specs.Windows.{AreIdle, AreNeeded, HasCut, call_of}
-use Rattle.histories.proofs.Following.{history_front}
 use Rattle.histories.proofs.Leaving.{explained_of}
-use Rattle.histories.proofs.Verdicts.{formed_history, formed_inside, sound_formed}
+use Rattle.histories.proofs.Verdicts.{formed_history, formed_inside, history_front, sound_formed}
 use Rattle.service_conformance.specs.Judged.{IsIdleJudged}
 use Rattle.history_logs.specs.Judging.{BeginBelow}
 use Rattle.history_logs.specs.Logs.{lines_begun}

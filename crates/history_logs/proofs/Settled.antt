@@ -1,9 +1,9 @@
 -- What settles of a service while a log is read.
 use Rattle.history_logs.proofs.Words.{AreOver, Begin, Calls, Crash, End, Event, Front, GoesShort, HasEnded, HasShort, HasSlot, IsFrontAfter, IsHistory, IsOpen, IsOrderly, IsShort, Judged, List, MayFollow, MayFollowAt, None, Option, Service, Some, Stays, StepOf, Watched, WindowStep, [], add-one, ap, append_assoc, arith, begins, begins-append, begun, begun_none, cases_lt, counts_begin, counts_crash, counts_end, drop, flat_map, fold, forgetting, forgotten, get_or, inl, inr, length, min, news, one_more, option_to_list, refl, replicate, same_Some, slice_get, slice_get-get_or, stands_begins, stands_take, start_of, suc, sym, take, take-append-drop, take-take, take_all, times_one, zero, ℕ, ◌++◌, ◌+◌, ◌<◌, ◌∙◌, ◌∷◌, ◌≡◌, ◌≤◌, ◌⊎◌}
 use Rattle.histories.proofs.Events.{begins_stands, begins_begin, begins_ends, ended_right, open_parts, open_whole}
-use Rattle.histories.proofs.Verdicts.{begun-append, history_sound}
+use Rattle.histories.proofs.Verdicts.{begun-append, history_past, history_sound}
 use Rattle.histories.specs.Windows.{HasPast, Precedes}
-use Rattle.histories.proofs.Following.{history_past, slot_open, no_slot}
+use Rattle.histories.proofs.Following.{slot_open, no_slot}
 use Rattle.history_logs.specs.Settling.{IsBehindBegun}
 use Rattle.history_logs.proofs.Answering.{get_forgotten, length_forgotten, step_same}
 

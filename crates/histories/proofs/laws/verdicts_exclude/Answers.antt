@@ -1,4 +1,4 @@
-use Rattle.histories.proofs.Following.{verdicts_exclude}
+use Rattle.histories.proofs.Verdicts.{verdicts_exclude}
 use Rattle.histories.proofs.laws.verdicts_exclude.Goals as goal
 
 pub returns : goal.returns

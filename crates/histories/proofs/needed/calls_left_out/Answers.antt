@@ -1,5 +1,5 @@
 use Rattle.histories.proofs.Words.{IfOk-weaker, refl}
-use Rattle.histories.proofs.Following.{history_past}
+use Rattle.histories.proofs.Verdicts.{history_past}
 use Rattle.histories.proofs.Leaving.{refused_window, rest_none}
 use Rattle.histories.proofs.Verdicts.{formed_inside}
 use Rattle.histories.proofs.needed.calls_left_out.Goals as goal

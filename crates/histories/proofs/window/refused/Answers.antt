@@ -1,5 +1,5 @@
 use Rattle.histories.proofs.Words.{arith, refl}
-use Rattle.histories.proofs.Following.{history_front, not_refused, open_front}
+use Rattle.histories.proofs.Verdicts.{history_front, not_refused, open_front}
 use Rattle.histories.proofs.window.refused.Goals as goal
 
 pub unreachable-requires : goal.unreachable-requires
