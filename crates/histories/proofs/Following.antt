@@ -161,7 +161,7 @@ module _ {S : Type 0} (Step : S → ℕ → S → Type 0) (olds : List S) where
     pub agrees_inside : (Made : S → ℕ → S → Type 0) (more : List Event)
         → AgreesOn Made Step es more → AgreesOn Made Step g.is.inside more
     agrees_inside Made more agrees c is =
-        agrees c (elim is [ | inl now ↦ inl (open_now c now) | inr then ↦ inr then ])
+        agrees c (elim is [ inl now ↦ inl (open_now c now) | inr then ↦ inr then ])
 
     -- a window begins where no call is open
     pub goes_anew : (new : Front S) → BeginsAnew Step w.front new true
@@ -261,11 +261,16 @@ module _ {S : Type 0} (Step : S → ℕ → S → Type 0) (olds : List S) (es : 
         ])
     stops advance.ManyOpen many =
         stop_of _
-        (rw more (many.0, many.1, many.2, λ c. (
-          λ has. open_more _ _ _ _ g _ history _ ((many.3 c).0 has),
-          λ is. (many.3 c).1 (open_inside _ _ c g.is.cut.quiet
-              (rw (split_more _ _ _ _ g _ history) at is)),
-        )))
+        (rw more (
+          many.0,
+          many.1,
+          many.2,
+          λ c. (
+            λ has. open_more _ _ _ _ g _ history _ ((many.3 c).0 has),
+            λ is. (many.3 c).1 (open_inside _ _ c g.is.cut.quiet
+                (rw (split_more _ _ _ _ g _ history) at is)),
+          ),
+        ))
     stops advance.NoEvent closed = closed (formed_next _ _ _ (formed_more _ _ _ _ g _ history)).1
 
 -- the events up to one that stands at an index, and the next one
@@ -313,12 +318,12 @@ follows_cut Step olds cut.WhereQuiet es count old new is g busy whole cuts = rec
       elim cuts [
         | inl anew ↦ absurd (omega (arith, anew.0, is, more, less))
         | inr stays ↦ elim (cases_lt k count) [
-            | inl before ↦ busy refl k (omega (arith, stays.0, more)) before quiet
-            | inr last ↦
-                let open_call = stays.1.1 g.is.inside g.is.states g.is.front in
-                let now = open_now _ _ _ _ g open_call.0 open_call.1 in
-                now.1 (rw (take_all k es (omega (arith, last, is))) at quiet _ now.0)
-          ]
+          | inl before ↦ busy refl k (omega (arith, stays.0, more)) before quiet
+          | inr last ↦
+              let open_call = stays.1.1 g.is.inside g.is.states g.is.front in
+              let now = open_now _ _ _ _ g open_call.0 open_call.1 in
+              now.1 (rw (take_all k es (omega (arith, last, is))) at quiet _ now.0)
+        ]
       ];
   whole = λ never. absurd (cc);
 }

@@ -8,7 +8,7 @@ use Rattle.toml_parser.specs.Strings.{Key, recursion_limit}
 use Rattle.toml.specs.Parse.{after_element, atom, expression, key_equals}
 use Rattle.toml.specs.Tables.{Expression}
 use Rattle.toml_positions.specs.Written.{seen}
-use Rattle.toml_positions.specs.declared.position.Head.{Head}
+use Rattle.toml_positions.specs.declared.expression.Head.{Head}
 
 -- less text is left
 abbrev pub Shortens : {A : Type 0} → (A → List ℕ) → List ℕ → Result (Option A) AllocError → Type 0

@@ -5,6 +5,7 @@
 //! paths is first written.
 #![tactic(auto)]
 
+mod expression;
 mod position;
 
 pub use position::{KeyPath, Position, position_after, positions_of};

@@ -2,7 +2,7 @@ use Rattle.std.proofs.Common.{◌≡◌, ◌-◌, ◌==◌, true, false, Some, a
 use Rattle.std.proofs.lemmas.Grind.{common_steps}
 use Rattle.toml_parser.specs.Lexical.{first}
 use Rattle.toml_positions.proofs.Passed.{elements_turn, found_at}
-use Rattle.toml_positions.proofs.position.+value.Goals as goal
+use Rattle.toml_positions.proofs.expression.+value.Goals as goal
 
 pub after_elements-elements-init : goal.after_elements-elements-init
 after_elements-elements-init c c' = (search rules, le_refl _, λ n h. (n, h, refl))

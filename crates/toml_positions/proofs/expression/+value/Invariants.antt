@@ -2,7 +2,7 @@ use Rattle.std.proofs.Common.{◌≡◌, ℕ, ◌+◌, ◌*◌, ◌<◌, ◌≤�
 use denote.Text.{Utf8}
 use denote.Shadow.{shadow}
 use Rattle.toml_positions.specs.Reading.{past_elements, past_value}
-use Rattle.toml_positions.proofs.position.+value.Given as goal
+use Rattle.toml_positions.proofs.expression.+value.Given as goal
 
 abbrev pub decreases-after_elements : goal.decreases-after_elements
 decreases-after_elements l = 3 * l.depth + 3
