@@ -16,7 +16,6 @@ use Rattle.iox2_container.specs.contracts.container.free.FreeList as FreeList
 use Rattle.iox2_container.specs.contracts.container.free.FreeListSlotAllocator.TheImpl as FreeListSlotAllocator
 use Rattle.iox2_container.specs.contracts.container.slot_map.SlotMap as SlotMap
 use Rattle.iox2_container.specs.contracts.container.counted_map.CountedMap.TheInside as Inside
-use Rattle.iox2_container.specs.contracts.container.slot_map.slots.EntrySlots as EntrySlots
 use Rattle.iox2_container.specs.contracts.container.slot_map.slots.Slots as Slots
 use Rattle.iox2_container.specs.contracts.container.slot_map.Touches as Touches
 use Rattle.iox2_container.specs.declared.container.free.SlotAllocator.{Ghosts as SlotAllocatorGhosts}
@@ -32,16 +31,11 @@ Cell-send T N t n =
     recorded_send (Enum (enum.shape (Cell.the_type T N))) _ _ ((Cell.the_type T N).to_one)
     (enum_send (enum.shape (Cell.the_type T N)) ((n, tt), ((search sendable, (t, tt)), tt)))
 
--- slots
-module _ (T N : RattleType) where
-  EntrySlots-send : IsSend T → IsSend N → IsSend (EntrySlots.the_row T N)
-  EntrySlots-send t n = search (crosses, sendable, Slots-send, Cell-send) depth 20
-
 -- any slot map
 module _ (T S N : RattleType) (slots : SlotAllocatorGhosts S.Denot T.Denot N.Denot)
     (debug : DebugGhosts N.Denot) where
   inside_send : IsSend T → IsSend S → IsSend N → IsSend (Inside.the_row T S N slots debug)
-  inside_send t s n = search (crosses, sendable, EntrySlots-send) depth 30
+  inside_send t s n = search (crosses, sendable, Slots-send, Cell-send) depth 30
 
   pub SlotMap-send : IsSend T → IsSend S → IsSend N → IsSend (SlotMap.the_row T S N slots debug)
   SlotMap-send t s n = search (crosses, sendable, inside_send) depth 30

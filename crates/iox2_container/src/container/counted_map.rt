@@ -11,7 +11,7 @@ use super::passes::{sweep, take_out};
 use super::registry::{
     Attached, ContainerAddFailure, ContainerRemoveError, ReleaseMode, ReleaseState,
 };
-use super::slot_map::slots::EntrySlots;
+use super::slot_map::slots::{Cell, EntrySlots, Slots};
 use iox2_ids::identifiers::UniqueNodeId;
 use std::alloc::{AllocError, Global};
 use std::marker::Model;
@@ -97,7 +97,7 @@ impl<T: Copy, S: SlotAllocator<T>> CountedMap<T, S> {
         ensures { IfOk result (λ m. m ≡ fresh service role capacity tickets) }
     {
         let (free, next) = S::all_free();
-        let slots = EntrySlots::new(alloc, capacity, next)?;
+        let slots = Slots::new(alloc, capacity, Cell::Free(next))?;
         Ok(CountedMap {
             header: RegistryHeader {
                 service,

@@ -108,10 +108,9 @@ fn a_scan_is_shown_by_field(rt: HostRuntime) -> Result<(), Fail> {
         &rt,
         &mut scan(rt.alloc(), Role::Node, (3, 9))?,
         "SlotMap { map: CountedMap { header: RegistryHeader { service: 7, role: Node, budget: 9, \
-        count: 1, locked: false, used: 2 }, slots: EntrySlots { \
-        slots: Slots { cells: [Free(()), Taken { ticket: 1, \
+        count: 1, locked: false, used: 2 }, slots: Slots { cells: [Free(()), Taken { ticket: 1, \
         details: UniqueNodeId { id: UniqueId { value: 6, kind: PhantomData<_> } } }, Free(())], \
-        touches: Touches } }, free: LowestFree, newest_end: 2 } }",
+        touches: Touches }, free: LowestFree, newest_end: 2 } }",
     )
 }
 
@@ -121,10 +120,9 @@ fn a_list_is_shown_by_field(rt: HostRuntime) -> Result<(), Fail> {
         &rt,
         &mut list(rt.alloc(), Role::Node, (3, 9))?,
         "SlotMap { map: CountedMap { header: RegistryHeader { service: 7, role: Node, budget: 9, \
-        count: 1, locked: false, used: 2 }, slots: EntrySlots { \
-        slots: Slots { cells: [Free(None), Taken { ticket: 1, \
+        count: 1, locked: false, used: 2 }, slots: Slots { cells: [Free(None), Taken { ticket: 1, \
         details: UniqueNodeId { id: UniqueId { value: 6, kind: PhantomData<_> } } }, \
-        Free(None)], touches: Touches } }, free: FreeList { head: Some(0), fresh: 2 }, \
+        Free(None)], touches: Touches }, free: FreeList { head: Some(0), fresh: 2 }, \
         newest_end: 2 } }",
     )
 }

@@ -204,7 +204,7 @@ fn registry(
     format!(in rt.alloc();
         "SlotMap {{ map: CountedMap {{ header: RegistryHeader {{ service: 7, role: {role:?}, \
         budget: 9, count: {count}, locked: false, used: {count} }}, \
-        slots: EntrySlots {{ slots: Slots {{ cells: [{cells}], touches: Touches }} }}, \
+        slots: Slots {{ cells: [{cells}], touches: Touches }}, \
         free: FreeList {{ {free} }}, newest_end: {newest_end} }} }}"
     )
     .expect(rt, "memory for a text")

@@ -3,7 +3,6 @@
 //! look at them.
 ghost use Rattle.std.specs.Prelude.{◌≡◌, ◌==◌, ◌≢◌, ◌+◌, ◌<◌, Some, IfOk, MatchOption};
 ghost use Rattle.std.specs.Prelude.{false, length, map, replicate, slice_get, slice_set};
-ghost use Rattle.iox2_container.specs.declared.container.slot_map.slots.Cell.TheVariants.{Free};
 ghost use Rattle.iox2_container.specs.Cells.{occupant, shown};
 ghost use Rattle.iox2_container.specs.Passes.{CellHas, IsAt, SlotIsOf, cell_is_of};
 
@@ -171,77 +170,13 @@ impl<C: Copy> Slots<C> {
         self.touches = self.touches.one_more();
         self.cells[index] = cell;
     }
-
-    /// The cell in a slot. This is no touch, and is not counted.
-    pub fn peek(&self, index: usize) -> C
-        requires { index < length self.now.cells }
-        ensures { slice_get self.now.cells index ≡ Some result }
-    {
-        self.cells[index]
-    }
-}
-
-impl<T: Attached + Copy, N: Copy> Slots<Cell<T, N>> {
-    /// The details in a slot, if they are the node's. This is a touch.
-    #[inline(always)]
-    fn look_for(&mut self, slot: usize, node: &UniqueNodeId) -> Option<T>
-        requires { slot < length self.old.cells }
-        ensures cells { self.new.cells ≡ self.old.cells }
-        ensures room { self.new.room ≡ self.old.room }
-        ensures touches { self.new.touches ≡ self.old.touches + 1 }
-        ensures found { MatchOption result
-            (SlotIsOf T.node node.now (map shown self.old.cells) slot false)
-            (IsAt T.node node.now (map shown self.old.cells) slot) }
-    {
-        self.touches = self.touches.one_more();
-        self.cells[slot].of_node(node)
-    }
 }
 
 /// Slots with entries, each with its ticket. A free slot keeps an `N`. Each call but `len` is a
 /// touch, or, where it is given a count of looks, a look.
-#[derive(Debug, Drop)]
-pub struct EntrySlots<T: Copy, N: Copy> {
-    slots: Slots<Cell<T, N>>,
-}
-
-impl<T: Copy, N: Copy> Model for EntrySlots<T, N> {
-    ghost use Rattle.iox2_container.specs.declared.container.slot_map.slots.Cell.{Cell};
-    ghost use Rattle.iox2_container.specs.Cells.{Cells};
-
-    ghost Value = { Cells (Cell T N) };
-
-    ghost view = { λ p. p.slots };
-}
+pub type EntrySlots<T, N> = Slots<Cell<T, N>>;
 
 impl<T: Copy, N: Copy> EntrySlots<T, N> {
-    /// So many free slots, each of which keeps this. Refused where there is no memory for them.
-    pub(crate) fn new(alloc: Global, capacity: usize, next: N) -> Result<Self, AllocError>
-        ensures cells { IfOk result (λ p. p.cells ≡ replicate capacity (Free next)) }
-        ensures room { IfOk result (λ p. p.room ≡ capacity) }
-        ensures touches { IfOk result (λ p. p.touches ≡ 0) }
-    {
-        let slots = Slots::new(alloc, capacity, Cell::Free(next))?;
-        Ok(EntrySlots { slots })
-    }
-
-    /// How many slots there are.
-    pub(crate) fn len(&self) -> usize
-        ensures { result ≡ length self.now.cells }
-    {
-        self.slots.len()
-    }
-
-    /// The cell in a slot. This is a touch.
-    pub(crate) fn read(&mut self, slot: usize) -> Cell<T, N>
-        requires { slot < length self.old.cells }
-        ensures cell { slice_get self.old.cells slot ≡ Some result }
-        ensures cells { self.new.cells ≡ self.old.cells }
-        ensures touches { self.new.touches ≡ self.old.touches + 1 }
-    {
-        self.slots.read(slot)
-    }
-
     /// The entry of a slot. This is a touch.
     pub(crate) fn look(&mut self, slot: usize) -> Option<Occupant<T>>
         requires { slot < length self.old.cells }
@@ -252,15 +187,6 @@ impl<T: Copy, N: Copy> EntrySlots<T, N> {
         self.read(slot).occupant()
     }
 
-    /// Puts a cell into a slot, in place of the one that was there. This is a touch.
-    pub(crate) fn write(&mut self, slot: usize, cell: Cell<T, N>)
-        requires { slot < length self.old.cells }
-        ensures cells { self.new.cells ≡ slice_set self.old.cells slot cell }
-        ensures touches { self.new.touches ≡ self.old.touches + 1 }
-    {
-        self.slots.write(slot, cell);
-    }
-
     /// The entry of a slot. This is a look.
     pub(crate) fn peek_at(&self, slot: usize, looks: &mut Touches) -> Option<Occupant<T>>
         requires { slot < length self.now.cells }
@@ -268,7 +194,7 @@ impl<T: Copy, N: Copy> EntrySlots<T, N> {
         ensures looks { looks.new.count ≡ looks.old.count + 1 }
     {
         *looks = looks.one_more();
-        self.slots.peek(slot).occupant()
+        self.cells[slot].occupant()
     }
 }
 
@@ -283,7 +209,8 @@ impl<T: Attached + Copy, N: Copy> EntrySlots<T, N> {
             (SlotIsOf T.node node.now (map shown self.old.cells) slot false)
             (IsAt T.node node.now (map shown self.old.cells) slot) }
     {
-        self.slots.look_for(slot, node)
+        self.touches = self.touches.one_more();
+        self.cells[slot].of_node(node)
     }
 
     /// Whether the entry in a slot is the node's. This is a look.
@@ -294,6 +221,6 @@ impl<T: Attached + Copy, N: Copy> EntrySlots<T, N> {
         ensures looks { looks.new.count ≡ looks.old.count + 1 }
     {
         *looks = looks.one_more();
-        self.slots.cells[slot].is_of(node)
+        self.cells[slot].is_of(node)
     }
 }
