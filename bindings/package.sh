@@ -139,13 +139,13 @@ changes=$(git -C "$top" status --porcelain || true)
     echo "version: $version"
     echo "commit: $(git -C "$top" rev-parse HEAD)${changes:+, and changes that it has not}"
     echo "toolchain: $(rt version)"
-    # What the gate printed of each crate, and its last line.
-    if [ -f "$top/out/gate" ]; then
+    # What the gate printed of this commit: of each crate, and its last line.
+    if grep -qx "commit: $(git -C "$top" rev-parse HEAD)" "$top/out/gate" 2> /dev/null; then
         awk '/^== / { crate = $2 } /^logic=/ && !seen[crate]++ { print crate ": " $0 }' \
             "$top/out/gate" | sort
         echo "gate: $(grep -E '^[0-9]+ passed, [0-9]+ failed$' "$top/out/gate" | head -n 1)"
     else
-        echo "gate: not run in this tree"
+        echo "gate: not run on this commit"
     fi
 } > "$dist/PROVENANCE"
 (cd "$dist" && sha256sum -- * > SHA256SUMS)

@@ -227,6 +227,10 @@ int main(int count, char** words) {
     const auto calls = static_cast<std::size_t>(std::atoll(words[2]));
     const auto seed = static_cast<std::uint64_t>(std::atoll(words[3]));
     const auto services = static_cast<std::uint64_t>(count > 4 ? std::atoll(words[4]) : 1);
+    if (threads == 0) {
+        std::fputs("THREADS is at least 1\n", stderr);
+        return 2;
+    }
     for (std::uint64_t number = 1; number <= services; ++number) {
         const bool is_alone = services == 1;
         const auto log = lockfree::run(number, threads, calls, seed + number, is_alone);
