@@ -183,7 +183,7 @@ locked_has_no_port s i t =
       no_port s.nodes.registry _ none i.ports_are.second.registered,
     )
 
-unlocked : (b : Bool) → (IsTrue b → ⊥) → b ≡ false
+pub unlocked : (b : Bool) → (IsTrue b → ⊥) → b ≡ false
 unlocked true n = absurd (n refl)
 unlocked false n = refl
 

@@ -1,6 +1,6 @@
 -- What is registered or attached is what there is room for, and ports only of the pattern's roles.
-use Rattle.iox2_dynamic.proofs.Names.{PatternKind, Role, HasRole, LacksRole, role_at, side_of, ContainerAddFailure, IsLocked, OutOfSpace, Handle, RegistryState, AddStep, TakesEntry, PortDetails, node_of, role_of, AddsTo, Ports, TakesIn, Side, of_side, First, Second, Service, TakesPort, entries_of_node, first_role, second_role, AttachStep, RegisterStep, ContainerState, IsService, Admits, AttachesTo, NoSpace}
-use Rattle.std.proofs.Common.{◌≡◌, Bool, true, false, Option, Some, None, inl, inr, refl, sym, ◌≢◌, ℕ, ◌<◌, true≢false, Result, Ok, Err, ◌∙◌, arith}
+use Rattle.iox2_dynamic.proofs.Names.{PatternKind, Role, HasRole, LacksRole, role_at, side_of, ContainerAddFailure, IsLocked, OutOfSpace, Handle, RegistryState, AddStep, TakesEntry, PortDetails, node_of, role_of, AddsTo, Ports, TakesIn, Side, of_side, First, Second, Service, TakesPort, entries_of_node, first_role, second_role, AttachStep, RegisterStep, ContainerState, IsService, IsRegistry, Admits, AttachesTo, NoSpace, is_of}
+use Rattle.std.proofs.Common.{◌≡◌, Bool, true, false, Option, Some, None, inl, inr, refl, sym, ◌≢◌, ℕ, ◌<◌, ap, true≢false, Result, Ok, Err, ◌∙◌, arith}
 use Rattle.std.specs.Prelude.{◌↔◌, IfNone, IfSome, IsTrue, is_some, IsOk}
 use Rattle.std.specs.Result.{result_or}
 use Rattle.iox2_dynamic.specs.declared.dynamic_config.answers.AttachError.{AttachError}
@@ -8,7 +8,8 @@ use Rattle.iox2_dynamic.specs.declared.dynamic_config.answers.RegisterNodeResult
 use Rattle.iox2_dynamic.specs.declared.dynamic_config.answers.RegisterNodeResult.TheVariants.{MarkedForDestruction, ExceedsMaxNumberOfNodes}
 use Rattle.iox2_config.specs.declared.hash.input.PatternKind.TheVariants as kind
 use Rattle.iox2_dynamic.specs.declared.dynamic_config.answers.AttachError.TheVariants as attach
-use Rattle.iox2_dynamic.proofs.Keeping.{not_false}
+use Rattle.iox2_container.proofs.Counting.{counted}
+use Rattle.iox2_dynamic.proofs.Keeping.{not_false, unlocked}
 
 lacks : (p : PatternKind) (role : Role) → LacksRole p role → HasRole p role → ⊥
 lacks p role none (inl e) = none.0 e
@@ -93,6 +94,17 @@ attached_where old details (Err attach.NodeNotRegistered) new there s =
     (λ e. absurd (true≢false (sym e)), λ t. absurd (omega (arith, there, s.1)))
 attached_where old details (Err attach.OutOfSpace) new there s =
     (λ e. absurd (true≢false (sym e)), λ t. absurd (not_taken _ _ _ details s.1.0 t.1))
+
+-- a service in which the node is registered is not locked
+pub admitted : (nodes : ContainerState ℕ) (id : ℕ) → IsRegistry nodes.registry
+    → 0 < entries_of_node id nodes.registry → Admits nodes id (Ok tt)
+admitted nodes id k there = (
+  unlocked nodes.registry.locked (λ t.
+      let none : entries_of_node id nodes.registry ≡ 0 =
+      ap (counted (is_of (λ i. i) id)) (k.locked_is_empty t) in
+      absurd (omega arith)),
+  there,
+)
 
 -- no registry of ports is locked
 is_open : (side : Side) (s : Service) → IsService s

@@ -47,14 +47,15 @@ impl<A: Copy, B: Copy> Model for PortRegistries<A, B> {
 }
 
 /// Refuses a port of the node where the service is locked, and else where the node is not
-/// registered.
+/// registered. A locked service has no node: where the node is registered, the lock is not read.
+#[tactic(auto, using(crate::proofs::Rooms::admitted))]
 fn admit(nodes: &ServiceRegistry<UniqueNodeId>, node: &UniqueNodeId) -> Result<(), AttachError>
     ensures { Admits nodes.now node.now result }
 {
-    if nodes.is_locked() {
-        return Err(AttachError::ServiceIsLocked);
-    }
     if !nodes.has_entry_of(node) {
+        if nodes.is_locked() {
+            return Err(AttachError::ServiceIsLocked);
+        }
         return Err(AttachError::NodeNotRegistered);
     }
     Ok(())
