@@ -177,10 +177,11 @@ public:
     /// the others. Threads may make callers at once.
     /// Errors: `Empty`; `TooLong`; `IllegalByte`; `NoMemory`.
     Result<LogCaller> caller(std::string_view name) noexcept {
-        char front[IOX2SD_LOG_MAX_NAME + 2] = {};
-        name.copy(front, sizeof front - 1);
+        if (name.size() > IOX2SD_LOG_MAX_NAME) return Status::TooLong;
         // A zero byte would end the name.
         if (name.find('\0') != std::string_view::npos) return Status::IllegalByte;
+        char front[IOX2SD_LOG_MAX_NAME + 1] = {};
+        name.copy(front, name.size());
         const iox2sd_log_caller_answer made = iox2sd_log_caller_create(writer_, front);
         return detail::result(made.status, LogCaller(made.caller));
     }
