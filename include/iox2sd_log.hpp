@@ -148,7 +148,8 @@ private:
     iox2sd_log_caller* caller_;
 };
 
-/// The log of a service of any implementation. It is moved and not copied.
+/// The log of a service of any implementation. It is moved and not copied. One that was moved from
+/// makes no caller and no text: `Null`.
 class LogWriter {
 public:
     /// Begins the log of a service with nothing attached. Errors: `UnknownPattern`; `NoMemory`.
