@@ -108,6 +108,8 @@ completes() {
 completes_options() {
     [ "$(completes iox2-check --s)" = $'--strict\n--show\n--schema' ] &&
         [ "$(completes iox2-check --format j)" = json ] &&
+        [ "$(completes iox2-check --format = j)" = json ] &&
+        [ "$(completes iox2-check --format =)" = $'text\njson' ] &&
         [ "$(completes iox2-check "$work/check/ar")" = "$work/check/args" ]
 }
 run "archive: completions of iox2-check" completes_options

@@ -148,7 +148,8 @@ private:
     iox2sd_log_caller* caller_;
 };
 
-/// The log of a service of any implementation. It is moved and not copied.
+/// The log of a service of any implementation. It is moved and not copied. One that was moved from
+/// makes no caller and no text: `Null`.
 class LogWriter {
 public:
     /// Begins the log of a service with nothing attached. Errors: `UnknownPattern`; `NoMemory`.
@@ -177,10 +178,11 @@ public:
     /// the others. Threads may make callers at once.
     /// Errors: `Empty`; `TooLong`; `IllegalByte`; `NoMemory`.
     Result<LogCaller> caller(std::string_view name) noexcept {
-        char front[IOX2SD_LOG_MAX_NAME + 2] = {};
-        name.copy(front, sizeof front - 1);
+        if (name.size() > IOX2SD_LOG_MAX_NAME) return Status::TooLong;
         // A zero byte would end the name.
         if (name.find('\0') != std::string_view::npos) return Status::IllegalByte;
+        char front[IOX2SD_LOG_MAX_NAME + 1] = {};
+        name.copy(front, name.size());
         const iox2sd_log_caller_answer made = iox2sd_log_caller_create(writer_, front);
         return detail::result(made.status, LogCaller(made.caller));
     }

@@ -186,6 +186,7 @@ void written() {
     CHECK(log.caller("a b").status() == Status::IllegalByte);
     CHECK(log.caller(std::string_view("a\0", 2)).status() == Status::IllegalByte);
     CHECK(log.caller("a2345678901234567").status() == Status::TooLong);
+    CHECK(log.caller(std::string_view("a23456789012345\0007", 17)).status() == Status::TooLong);
     CHECK(a.reserve(SIZE_MAX).status() == Status::NoMemory);
 }
 

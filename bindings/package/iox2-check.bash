@@ -2,6 +2,12 @@
 _iox2_check() {
     local word=${COMP_WORDS[COMP_CWORD]} before=${COMP_WORDS[COMP_CWORD - 1]}
     COMPREPLY=()
+    # Bash takes the = of --format=json for a word of its own.
+    if [ "$word" = = ]; then
+        word=
+    elif [ "$before" = = ]; then
+        before=${COMP_WORDS[COMP_CWORD - 2]}
+    fi
     if [ "$before" = --format ]; then
         mapfile -t COMPREPLY < <(compgen -W 'text json' -- "$word")
     elif [[ $word == -* ]]; then

@@ -180,11 +180,12 @@ class LogWriter:
         Raises `OutOfRangeError` for a name of another length, `IllegalByteError`.
         """
         instance(name, str, "LogWriter.caller")
-        if not 1 <= len(name) <= MAX_NAME:
-            raise OutOfRangeError(f"LogWriter.caller: 1 to {MAX_NAME} bytes, got {len(name)}")
-        if not (name.isascii() and name.isalnum()):
+        plain = str.__str__(name)  # What a subclass holds, whatever its methods say.
+        if not 1 <= len(plain) <= MAX_NAME:
+            raise OutOfRangeError(f"LogWriter.caller: 1 to {MAX_NAME} bytes, got {len(plain)}")
+        if not (plain.isascii() and plain.isalnum()):
             raise IllegalByteError("LogWriter.caller")
-        made = LogCaller(name, self._numbers)
+        made = LogCaller(plain, self._numbers)
         self._callers.append(made)
         return made
 

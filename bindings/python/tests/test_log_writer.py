@@ -1,4 +1,5 @@
 import doctest
+import enum
 import threading
 import unittest
 
@@ -126,6 +127,14 @@ class LogWriting(unittest.TestCase):
             self.assertRaises(iox2sd.RoleNotInPatternError, listing, Role.NODE)
         self.assertRaises(iox2sd.OutOfRangeError, LogCommand.deregister, -1, 0)
         self.assertRaises(iox2sd.OutOfRangeError, LogReply.handle, 0, 2**64)
+
+    def test_a_caller_has_the_name_that_a_subclass_of_str_holds(self):
+        class Who(str, enum.Enum):
+            FIRST = "A"
+
+        log = a_log()
+        log.caller(Who.FIRST).begin(LogCommand.nodes()).end(LogReply.list([]))
+        self.assertEqual(log.text.splitlines()[1:], ["A> nodes", "A< list"])
 
     def test_arguments_of_other_types(self):
         log, room = a_log(), Capacities(4, 3, 2)
