@@ -1,6 +1,6 @@
 -- The text of a picture: calls and points, what stands around them, and the whole.
 use Rattle.std.specs.Prelude.{ℕ, ◌==◌, ◌&&◌, if◌then◌else◌, leb, List, [], ◌∷◌, ◌++◌, codes, Option, Some, None, ◌+◌, ◌-◌, ◌*◌, ◌/◌, length, max, min, take}
-use Rattle.std.specs.List.{flat_map}
+use Rattle.std.specs.List.{flat_map, fold}
 use Rattle.std.specs.Fmt.{decimal}
 use Rattle.std.specs.Borrow.{Bor}
 use Rattle.history_drawing.specs.Coordinates.{left, own_end, end_of, point_of, top, right}
@@ -170,9 +170,17 @@ notes_text notes y =
     ++ (lines_text 18 [] (take (min (length notes) 36) notes)
     ++ tail_text ((length notes - 36) / 4))))
 
+-- how wide a picture is at least with these lines below it: 8 pixels for each byte of the longest
+-- one, of 1,000 at most
+abbrev pub width_for : List (Bor (List ℕ)) → ℕ
+width_for notes =
+    24 + 8 * min (fold (λ longest (note : Bor (List ℕ)). max (length note.now) longest) 0 notes) 1000
+
 -- A picture of a time line, with the first line of a report above it and the others below.
 unfoldable pub svg_text : Timeline → List ℕ → List (Bor (List ℕ)) → List ℕ
 svg_text t heading notes =
-    open_text (max (right t.bars.items + 12) 760) (bottom t + 40 + 18 * min (length notes) 37)
+    open_text
+    (max (max (right t.bars.items + 12) 760) (width_for (take (min (length notes) 36) notes)))
+    (bottom t + 40 + 18 * min (length notes) 37)
     ++ (heading_text heading ++ (names_text t.rows.items
     ++ (calls_text t ++ notes_text notes (bottom t + 12))))

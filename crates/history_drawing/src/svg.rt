@@ -3,6 +3,7 @@ ghost use Rattle.std.specs.Prelude.{◌≡◌, ◌++◌, ◌≤◌, All, OnOk, l
 ghost use Rattle.std.specs.List.{flat_map};
 ghost use Rattle.history_drawing.specs.Coordinates.{IsDrawable};
 ghost use Rattle.history_drawing.specs.Svg.{bar_text, calls_text, marks_text, point_text, svg_text};
+ghost use Rattle.history_drawing.specs.Svg.{width_for};
 ghost use Rattle.history_drawing.specs.declared.timeline.Bar.{Bar};
 ghost use Rattle.history_drawing.specs.declared.timeline.Point.{Point};
 
@@ -66,6 +67,19 @@ fn write_calls(out: &mut String, timeline: &Timeline<'_>) -> Result<(), AllocErr
     write_points(out, &timeline.bars, &timeline.points)
 }
 
+/// How wide a picture is at least with these lines of a report: 8 pixels for each byte of the longest
+/// one, of 1,000 at most.
+fn width_for(notes: &[&[u8]]) -> usize
+    ensures value { result ≡ width_for notes.now }
+    ensures bound { result ≤ 8024 }
+{
+    let mut longest = 0;
+    for note in notes {
+        longest = note.len().max(longest);
+    }
+    24 + 8 * longest.min(1000)
+}
+
 /// Appends a picture of a time line, with the first line of a report above it and the others below.
 #[tactic(auto, unfolding(crate::specs::Svg::svg_text))]
 pub(crate) fn write_svg(
@@ -79,7 +93,8 @@ pub(crate) fn write_svg(
         ≡ string_bytes out.old ++ svg_text timeline.now heading.now notes.now) }
 {
     let bottom = top(timeline.rows.len());
-    let width = (right(&timeline.bars) + 12).max(760);
+    let shown = &notes[..notes.len().min(MAX_NOTES)];
+    let width = (right(&timeline.bars) + 12).max(760).max(width_for(shown));
     let height = bottom + 40 + 18 * notes.len().min(MAX_NOTES + 1);
     write_open(out, width, height)?;
     write_heading(out, heading)?;
