@@ -174,7 +174,8 @@ notes_text notes y =
 -- one, of 1,000 at most
 abbrev pub width_for : List (Bor (List ℕ)) → ℕ
 width_for notes =
-    24 + 8 * min (fold (λ longest (note : Bor (List ℕ)). max (length note.now) longest) 0 notes) 1000
+    24
+    + 8 * min (fold (λ longest (note : Bor (List ℕ)). max (length note.now) longest) 0 notes) 1000
 
 -- A picture of a time line, with the first line of a report above it and the others below.
 unfoldable pub svg_text : Timeline → List ℕ → List (Bor (List ℕ)) → List ℕ

@@ -67,8 +67,8 @@ fn write_calls(out: &mut String, timeline: &Timeline<'_>) -> Result<(), AllocErr
     write_points(out, &timeline.bars, &timeline.points)
 }
 
-/// How wide a picture is at least with these lines of a report: 8 pixels for each byte of the longest
-/// one, of 1,000 at most.
+/// How wide a picture is at least with these lines of a report: 8 pixels for each byte of the
+/// longest one, of 1,000 at most.
 fn width_for(notes: &[&[u8]]) -> usize
     ensures value { result ≡ width_for notes.now }
     ensures bound { result ≤ 8024 }

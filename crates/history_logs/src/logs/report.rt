@@ -383,7 +383,7 @@ fn append_conforms(calls: usize, services: usize, out: &mut Vec<u8>) -> Result<(
 }
 
 /// What is reported of a line from which orders lead to too many configurations.
-const MANY_CONFIGS: &[u8] = b": orders of the calls lead to more than 4096 configurations\n";
+const MANY_CONFIGS: &[u8] = b": orders of the calls lead to more than 4,096 configurations\n";
 
 /// What is reported of a line from which too many calls are open.
 const MANY_OPEN: &[u8] = b": more than 64 calls are open\n";
