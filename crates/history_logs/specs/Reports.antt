@@ -190,7 +190,8 @@ abbrev pub report_text : Verdict → List ℕ
 report_text (verdict.Conforms n m) = conforms_text n m
 report_text (verdict.Refused reported) = refusal_text reported
 report_text (verdict.ManyConfigs k) =
-    line_reported k (codes ": orders of the calls lead to more than 4,096 configurations" ++ 10 ∷ [])
+    line_reported k
+    (codes ": orders of the calls lead to more than 4,096 configurations" ++ 10 ∷ [])
 report_text (verdict.ManyOpen k) =
     line_reported k (codes ": more than 64 calls are open" ++ 10 ∷ [])
 report_text (verdict.BadLine k e) = line_reported k (expected_text e)
