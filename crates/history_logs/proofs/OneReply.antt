@@ -1,5 +1,5 @@
 -- Replies with one text are the same, but for the memory of a list.
-use Rattle.history_logs.proofs.Words.{List, None, Says, SeenReply, [], ap, arith, codes, decimal, get_or, refl, sym, ℕ, ◌++◌, ◌∙◌, ◌≡◌, ◌≢◌}
+use Rattle.history_logs.proofs.Words.{List, None, Says, SeenReply, [], ap, arith, codes, decimal, get_or, refl, sym, ℕ, ◌∙◌, ◌≡◌, ◌≢◌}
 use Rattle.std.specs.Global.{Vec}
 use Rattle.std.proofs.lemmas.List.{append_assoc, append_cancel_left}
 use Rattle.line_streams.specs.OneWay.{listed_one}
