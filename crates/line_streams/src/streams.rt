@@ -252,7 +252,8 @@ impl<T: Outcome, F: Outcome> Outcome for Result<T, F> {
 
 /// Writes an outcome, flushes both writers, and returns its status.
 ///
-/// An error is that of the write or the flush that failed, after which nothing was written.
+/// An error is that of the write or the flush that failed. Nothing was done to that stream after
+/// it.
 pub fn write_outcome<W: Sink, E: Sink, T: Outcome>(
     output: &mut W,
     errors: &mut E,
@@ -284,8 +285,8 @@ pub fn write_outcome<W: Sink, E: Sink, T: Outcome>(
 /// Reads all that the reader gives, works on it, writes the outcome, flushes both writers, and
 /// returns the status. Where memory for what is read is refused, that is worked on.
 ///
-/// An error is that of the read, the write or the flush that failed, after which nothing was
-/// written.
+/// An error is that of the read, the write or the flush that failed. Nothing was done to that
+/// stream after it.
 pub fn run_filter<R: Source, W: Sink, E: Sink, T: Outcome + Drop, F>(
     alloc: Global,
     input: &mut R,

@@ -269,7 +269,7 @@ fn run<R: Source, W: Sink, E: Sink>(
 ///   the number of the first line that no description has there, why it is bad and what was
 ///   expected, or what is wrong with the settings in front.
 /// - 2: memory was refused. Nothing was written to `output`, and `no memory` to `errors`.
-/// - 3: a read, a write or a flush failed, for any cause. Nothing was written after it.
+/// - 3: a read, a write or a flush failed, for any cause. Nothing was done to that stream after it.
 pub fn describe_streams<R: Source, W: Sink, E: Sink>(
     alloc: Global,
     arguments: io::Result<Args>,

@@ -341,7 +341,7 @@ fn run<R: Source, W: Sink, E: Sink, F: Files>(
 /// - 1: the same, and a file has an error, or, with `--strict`, a warning.
 /// - 2: the arguments are bad, or a file cannot be read: `errors` has a line for that.
 /// - 3: memory was refused: nothing was written to `output`, and `no memory` to `errors`. Or a
-///   read, a write or a flush failed, for any cause, and nothing was written after it.
+///   read, a write or a flush failed, for any cause, and nothing was done to that stream after it.
 pub fn check_streams<R: Source, W: Sink, E: Sink, F: Files>(
     alloc: Global,
     coloured: bool,

@@ -194,7 +194,7 @@ fn run(alloc: Global, read: Result<Vec<u8>, AllocError>) -> Replies
 ///   to `errors`.
 /// - 2: memory was refused. Nothing was written, or the whole reply lines of some first commands,
 ///   and `no memory` to `errors`.
-/// - 3: a read, a write or a flush failed, for any cause. Nothing was written after it.
+/// - 3: a read, a write or a flush failed, for any cause. Nothing was done to that stream after it.
 ///
 /// From `crates/iox2_replay/src/main.rt`:
 ///
