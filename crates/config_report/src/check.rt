@@ -213,14 +213,15 @@ fn start_of(error: &toml::de::Error, bytes: &[u8]) -> usize
 pub struct FileConfig {
     /// All settings, those that the file does not have being the defaults.
     pub config: Config,
-    /// A line for each key that no setting has.
+    /// A line for each key that no setting has, and for each contradiction of the settings.
     pub warnings: String,
 }
 
 /// Why a file gives no settings.
 #[derive(Debug, Drop)]
 pub enum ReportError {
-    /// It is no UTF-8, no TOML, or has values that are not allowed: what is wrong, in lines.
+    /// It is no UTF-8, too deep or no TOML, or has values that are not allowed: what is wrong, in
+    /// lines.
     Refused(String),
     /// Memory was refused.
     NoMemory,

@@ -40,7 +40,7 @@ pub fn entries_are_what_remains<T>()
         → HasEntry now handle details ↔ Remains changes handle details }
 {}
 
-/// No two adds give the same handle.
+/// No two adds of one registry give the same handle.
 pub fn handles_are_not_reused<T>()
     ensures { (start now : RegistryState T) (changes : List (Change T))
         → History start changes now → AllPairs ◌≢◌ (handles_given changes) }

@@ -10,12 +10,13 @@ use std::alloc::AllocError;
 use std::cmp::Ordering;
 use std::hash::{Hash, Hasher};
 
-/// Parts that fit 32 bits are those of the number that they make.
+/// Parts that fit 32 bits are those of the number that they make, so no two quadruples of such
+/// parts make one number.
 pub fn parts_are_packed()
     ensures { PartsArePacked }
 {}
 
-/// A number is made of its parts, so no two quadruples of parts make one number.
+/// Each number is made of its parts.
 pub fn packed_is_whole()
     ensures { PackedIsWhole }
 {}

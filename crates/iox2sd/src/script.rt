@@ -13,7 +13,7 @@ use std::alloc::Global;
 pub struct ScriptAnswer {
     /// The number of a [`Status`].
     pub status: u32,
-    /// The number of the [`Status`] that the call has with a longer buffer.
+    /// The number of the [`Status`] that this call would have had with a longer buffer.
     pub verdict: u32,
     /// The number of the bad line, from 1 on, or 0 where no line is bad.
     pub line: usize,

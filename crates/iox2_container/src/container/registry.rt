@@ -153,9 +153,9 @@ pub trait Registry<T: Attached + Copy> {
 
     /// Calls the callback once for each entry of the dead node, by rising slot, and removes those
     /// for which it returns `true`. Returns whether the registry is locked then. Where no entry is
-    /// removed, nothing is locked. It touches each slot at most once to look at it, and once more
-    /// for each entry that it removes. The callback must be callable on those entries in turn, each
-    /// time as the call before left it.
+    /// removed, nothing is locked. It touches slots at most as often as there are slots, and once
+    /// more for each entry that it removes. The callback must be callable on those entries in turn,
+    /// each time as the call before left it.
     fn recover<F: FnMut(&T) -> bool>(
         &mut self,
         dead: &UniqueNodeId,
