@@ -129,8 +129,8 @@ typedef struct iox2sd_config_fault {
 typedef struct iox2sd_config_answer {
     iox2sd_status status;
     size_t unknown;            /* How many keys no setting has. */
-    /* The first fault in the order of the file, past 128 KiB in that of the table of settings; all 0
-     * where the status is IOX2SD_STATUS_DONE. */
+    /* The first fault in the order of the file, past 128 KiB in that of the table of settings; all
+     * 0 where the status is IOX2SD_STATUS_DONE. */
     iox2sd_config_fault fault;
 } iox2sd_config_answer;
 
