@@ -1,7 +1,7 @@
 //! A register that is written and read.
 ghost use Rattle.std.specs.Prelude.{◌≡◌, ℕ, IfNone, IfSome, IsTrue, slice_get};
 ghost use Rattle.histories.specs.Frontier.{IsMade, states_in};
-ghost use Rattle.histories.specs.Histories.{AreAll};
+ghost use Rattle.histories.specs.Histories.{AreEnough};
 ghost use Rattle.histories_tests.specs.Register.{Makes, MakesCall};
 
 use histories::{Left, Machine};
@@ -40,7 +40,7 @@ fn after(access: &Access, value: u64) -> Option<u64>
 
 /// All values after a call: one, or none.
 fn all_after(access: &Access, value: u64) -> Left<u64>
-    ensures { AreAll (Makes access.now value) (states_in result) }
+    ensures { AreEnough (Makes access.now value) (states_in result) }
 {
     let Some(new) = after(access, value) else {
         return Left::Nothing;
