@@ -37,7 +37,7 @@ typedef struct iox2sd_conform_answer {
  * `calls` and `length` as they would be with a longer buffer; then `out` is as it was, and a call
  * with a longer buffer judges the log again from its start. Then IOX2SD_STATUS_NO_ORDER, of the
  * first line down to which no order of the calls explains what was seen. It has a reply; calls that
- * are answered below it may have any. If there is none, of the first line that passes a bound:
+ * are answered below it may have any. If there is none, of the line behind which a bound is passed:
  * IOX2SD_STATUS_TOO_MANY_CONFIGURATIONS where orders lead to more than 4,096 configurations,
  * IOX2SD_STATUS_TOO_MANY_OPEN_CALLS where more than 64 calls of a service are open.
  * Else, of the first line that is not what is expected, or before which the log ends,

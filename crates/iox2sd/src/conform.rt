@@ -84,10 +84,10 @@ fn conforming_calls(verdict: &Verdict) -> usize
 ///
 /// Refused are, in this order, want of memory (`NoMemory`); too short a buffer (`BufferTooShort`),
 /// and a call with a longer one judges the log again from its start; and a log that does not
-/// conform: by the first line down to which no order explains it (`NoOrder`) or with which a bound
-/// is passed (`TooManyConfigurations`, `TooManyOpenCalls`), or else by the first line that is not
-/// what is expected (`NoServiceLine`, `NoCallLine`, `NoReplyLine`, `CallerIsBusy`, `NoOpenCall`,
-/// `CallerIsDead`, `UnknownCaller`, `NoNewline`, `CarriageReturn`, `NoStateLine`).
+/// conform: by the first line down to which no order explains it (`NoOrder`), by that with which a
+/// bound is passed (`TooManyConfigurations`, `TooManyOpenCalls`), or else by the first line that is
+/// not what is expected (`NoServiceLine`, `NoCallLine`, `NoReplyLine`, `CallerIsBusy`,
+/// `NoOpenCall`, `CallerIsDead`, `UnknownCaller`, `NoNewline`, `CarriageReturn`, `NoStateLine`).
 #[unsafe(no_mangle)]
 pub extern "C" fn iox2sd_conform_run_at(alloc: Global, log: &[u8], out: &mut [u8]) -> ConformAnswer
     ensures { Answers log.now out.old result out.new }
