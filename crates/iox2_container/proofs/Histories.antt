@@ -1,11 +1,11 @@
 -- What each change leaves as it was, adds and takes out, and what follows for histories of changes
 -- and of numbers.
-use Rattle.iox2_container.proofs.Prelude.{AddStep, Adding, All, All-cons, All-head, All-nil, All-tail, All-weaker, AllPairs, AllPairs-cons, Any, Bool, Change, ChangeStep, ContainerAddFailure, ContainerRemoveError, Contains, Enters, Entry, Err, Handle, HasEntry, History, IsLocked, IsNew, IsRefused, IsRegistry, Leaves, List, Ok, OutOfSpace, Recovering, Recovers, RegistryState, ReleaseMode, ReleaseState, Remains, RemoveStep, Removing, Result, TakesOut, [], ap, arith, cons_option, handle_given_by, handle_of, handles_given, inl, inr, leaving, map, refl, rules, sym, ℕ, ◌++◌, ◌<◌, ◌↔◌, ◌∙◌, ◌∷◌, ◌≡◌, ◌≢◌, ◌≤◌, ◌⊎◌}
+use Rattle.iox2_container.proofs.Prelude.{AddStep, Adding, All, All-cons, All-head, All-nil, All-tail, All-weaker, AllPairs, AllPairs-cons, Any, Bool, Change, ChangeStep, ContainerAddFailure, ContainerRemoveError, Contains, Enters, Entry, Err, Handle, HasEntry, History, IsLocked, IsNew, IsRefused, IsRegistry, IsTrue, Leaves, List, Ok, OutOfSpace, Recovering, Recovers, RegistryState, ReleaseMode, ReleaseState, Remains, RemoveStep, Removing, Result, TakesOut, [], ap, arith, cons_option, false, handle_given_by, handle_of, handles_given, inl, inr, leaving, map, refl, rules, sym, true, ℕ, ◌++◌, ◌<◌, ◌↔◌, ◌∙◌, ◌∷◌, ◌≡◌, ◌≢◌, ◌≤◌, ◌⊎◌}
 use Rattle.iox2_container.specs.declared.container.registry.ContainerRemoveError.TheVariants.{ContainerHandleNotOwnedByContainer}
 use Rattle.iox2_container.specs.ServiceNumbers.{ReturnInTurn, NumbersRise}
 use Rattle.iox2_container.proofs.Lists.{Among, DifferBy, among_contained, among_less, among_more, contains_among, gained, moved, other_differs, of_all, first_or_other, without}
 use Rattle.iox2_container.proofs.SameEntries.{leaves_among, stays_among, stays_apart, stays_or_leaves}
-use Rattle.iox2_container.proofs.Keeping.{new_is_registry}
+use Rattle.iox2_container.proofs.Keeping.{new_is_registry, same_lock}
 
 -- number, role, slots and tickets stay, used tickets rise, and a new entry has the next ticket
 pub record Grows {T : Type 0} (old new : RegistryState T) : Type 0 where
@@ -353,6 +353,30 @@ pub handles_differ : {T : Type 0} (old new : RegistryState T) (changes : List (C
 handles_differ old new [] s = search rules
 handles_differ old new (c ∷ cs) s =
     search (rules, first_differs, tickets_to_come, handles_differ s.0 new cs s.3)
+
+-- nothing changes a locked registry
+locked_step : {T : Type 0} (old : RegistryState T) (change : Change T) (new : RegistryState T)
+    → IsRegistry old → IsTrue old.locked → ChangeStep old change new → new ≡ old
+locked_step old (Adding d (Err IsLocked)) new w l s = s.1
+locked_step old (Adding d (Err OutOfSpace)) new w l s = s.2
+locked_step old (Adding d (Ok handle)) new w l s =
+    let no : ◌≡◌ {A = Bool} true false = sym l ∙ s.0 in
+    absurd (cc)
+locked_step old (Removing handle mode (Err e)) new w l s = s.1
+locked_step old (Removing handle mode (Ok state)) new w l s =
+    let gone : Leaves old handle mode new = s.0 in
+    absurd (moved gone.0 old.entries [] (w.locked_is_empty l)
+    (gained new.entries old.entries gone.0 gone.2))
+locked_step old (Recovering is_dead marked went mode state) new w l s =
+    let none : new.entries ≡ [] = ap (λ r. r.entries) s.0.0 ∙ rw (w.locked_is_empty l) refl in
+    s.0.0 ∙ rw (w.locked_is_empty l, none, same_lock mode old.locked) refl
+
+pub locked_for_good : {T : Type 0} (start now : RegistryState T) (changes : List (Change T))
+    → IsRegistry start → IsTrue start.locked → History start changes now → now ≡ start
+locked_for_good start now [] w l s = s
+locked_for_good start now (c ∷ cs) w l s =
+    let same = locked_step start c s.0 w l s.1 in
+    locked_for_good s.0 now cs s.2 (rw same l) s.3 ∙ same
 
 -- each is greater than the last one before them
 above : (last new floor : ℕ) (numbers : List ℕ) → floor ≤ last → ReturnInTurn last numbers new

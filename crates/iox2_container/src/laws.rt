@@ -2,7 +2,7 @@
 //! `clone` see the values that it takes and gives.
 ghost use Rattle.std.specs.Prelude.{◌≡◌, ◌↔◌, ◌≢◌, Bool, IsTrue, IsOkAnd, List, AllPairs, Any};
 ghost use Rattle.std.specs.Fn.{CalledAt};
-ghost use Rattle.iox2_container.specs.State.{Handle, RegistryState};
+ghost use Rattle.iox2_container.specs.State.{Handle, IsRegistry, RegistryState};
 ghost use Rattle.iox2_container.specs.Steps.{RecoverStep, HasEntry};
 ghost use Rattle.iox2_container.specs.Histories.{Change, History, IsNew, IsRecoveryChange};
 ghost use Rattle.iox2_container.specs.Histories.{IsRefused, Remains, TakesOut, handles_given};
@@ -44,6 +44,13 @@ pub fn entries_are_what_remains<T>()
 pub fn handles_are_not_reused<T>()
     ensures { (start now : RegistryState T) (changes : List (Change T))
         → History start changes now → AllPairs ◌≢◌ (handles_given changes) }
+{}
+
+/// A locked registry stays as it is, whatever changes follow: nothing is added to it any more.
+#[tactic(auto, using(crate::proofs::Histories::locked_for_good))]
+pub fn locked_registries_stay<T>()
+    ensures { (start now : RegistryState T) (changes : List (Change T))
+        → IsRegistry start → IsTrue start.locked → History start changes now → now ≡ start }
 {}
 
 /// Numbers for services that are returned one after another rise, so no two of them are the same.

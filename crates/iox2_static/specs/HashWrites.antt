@@ -2,7 +2,7 @@
 use Rattle.std.specs.Prelude.{◌++◌, pos}
 use Rattle.std.specs.Hash.{HashWrites, bool, isize, option, u32, u64, usize}
 use Rattle.std.specs.declared.time.Duration.{Duration}
-use Rattle.iox2_ids.specs.Time.{Moment}
+use Rattle.iox2_ids.specs.Time.{moment_writes}
 use Rattle.iox2_config.specs.HashWrites.{detail_writes, details_writes}
 use Rattle.iox2_static.specs.declared.static_config.blackboard.StaticConfig.{StaticConfig as Blackboard}
 use Rattle.iox2_static.specs.declared.static_config.event.Deadline.{Deadline}
@@ -31,10 +31,6 @@ request_response_writes c = bool c.enable_safe_overflow_for_requests
     ++ (usize c.max_borrowed_responses_per_pending_response
     ++ (details_writes c.request_message_type_details
     ++ details_writes c.response_message_type_details))))))))))
-
--- what a time gives: its seconds and nanoseconds
-abbrev pub moment_writes : Moment → HashWrites
-moment_writes time = u64 time.seconds ++ u32 time.nanoseconds
 
 -- what a span of time gives: its seconds and nanoseconds
 abbrev pub duration_writes : Duration → HashWrites

@@ -124,7 +124,7 @@ fn sweep_found<T: Attached + Copy, S: SlotAllocator<T>, F: FnMut(&T) -> bool>(
 }
 
 /// Clears the slots of the dead node's entries for which the callback says so, and counts them. It
-/// reads each slot at most once, and writes those that it clears.
+/// makes at most as many accesses as there are slots and entries that it clears, together.
 pub(super) fn sweep<T: Attached + Copy, S: SlotAllocator<T>, F: FnMut(&T) -> bool>(
     slots: &mut EntrySlots<T, S::Next>,
     free: &mut S,

@@ -37,7 +37,7 @@ fn show<T: Copy, F: FnMut(&T) -> CallbackProgression>(
 }
 
 /// Calls the callback with each entry in turn, until it stops. No slot from the end on has an
-/// entry. It looks at each slot at most once.
+/// entry. It makes at most as many looks as there are slots.
 pub(super) fn visit<T: Copy, N: Copy, F: FnMut(&T) -> CallbackProgression>(
     slots: &EntrySlots<T, N>,
     end: usize,
@@ -99,8 +99,8 @@ fn has_between<T: Attached + Copy, N: Copy>(
 }
 
 /// Whether the node has an entry. No slot from the end on has one. It looks at the slots before
-/// `newest_end` first, from the last one down, and at each slot at most once. Where the slot just
-/// before `newest_end` has an entry of the node, it looks at no other.
+/// `newest_end` first, from the last one down, and makes at most as many looks as there are slots.
+/// Where the slot just before `newest_end` has an entry of the node, it looks at no other.
 #[inline(always)]
 pub(super) fn has_entry<T: Attached + Copy, N: Copy>(
     slots: &EntrySlots<T, N>,
@@ -123,8 +123,8 @@ pub(super) fn has_entry<T: Attached + Copy, N: Copy>(
     has_between(slots, 0, middle, node, looks) || has_between(slots, middle, end, node, looks)
 }
 
-/// How many entries are those of the node. No slot from the end on has an entry. It looks at each
-/// slot at most once.
+/// How many entries are those of the node. No slot from the end on has an entry. It makes at most
+/// as many looks as there are slots.
 pub(super) fn count_of<T: Attached + Copy, N: Copy>(
     slots: &EntrySlots<T, N>,
     end: usize,
