@@ -33,8 +33,8 @@ replies by the sequential specification. If not, it writes the first line down t
 and of the reply that none explains then, in that line or above it: its call, the line from which
 calls overlap, each reply that the call could have had, and who was attached then.
 
-  svg        write a picture instead: the calls that overlap the refused reply, or all calls of a
-             log that conforms, with the points at which they took effect
+  svg        write a picture instead: the calls of the window of the refused reply, or all calls
+             of a log that conforms, with the points at which they took effect
   --witness  write an order of the calls on each service too, where the log conforms: the lines
              in which they begin, one a line
   --progress show how many lines were read, once a second, where standard error is a terminal
@@ -43,8 +43,8 @@ calls overlap, each reply that the call could have had, and who was attached the
 
 docs/CONFORM.md has the lines of logs, docs/SCRIPT.md has commands and replies. Lines that are empty
 or begin with # are notes. The status is 0 where the log conforms, 1 where it does not, 2 after a
-bad argument or line, or where too many calls are open or orders of them are possible, 3 where
-memory was refused or reading or writing failed.
+bad argument or line, where too many calls are open or orders of them are possible, or where a
+picture would have over 200 calls, 3 where memory was refused or reading or writing failed.
 ";
 
 /// The version of the program, and that of the iceoryx2 whose layer it checks.
@@ -102,7 +102,8 @@ impl Outcome for Text {
 ///
 /// - 0: the log conforms, or the text was written.
 /// - 1: the log does not conform.
-/// - 2: an argument or a line is bad, or a bound on open calls or configurations was passed.
+/// - 2: an argument or a line is bad, a bound on open calls or configurations was passed, or there
+///   are more calls than a picture can have.
 /// - 3: memory was refused, or a read, a write or a flush failed.
 fn conform_streams<R: Source, W: Sink, E: Sink, P: Progress>(
     alloc: Global,

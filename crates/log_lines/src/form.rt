@@ -35,8 +35,8 @@ pub enum LogForm {
     WeakNodes,
     /// A weak listing of ports, `list?`.
     WeakList,
-    /// The begin of a call: `>` follows letters and digits that are no name, or that no space and
-    /// no command follow.
+    /// The begin of a call: `>` follows letters and digits that are no name, or that no space
+    /// follows.
     Begin,
     /// The end of a call: `<` follows the letters and digits.
     End,
@@ -152,8 +152,8 @@ fn behind_number(line: &[u8]) -> &[u8]
 }
 
 /// The form of lines that begin as this text does. The first word of the text decides, behind the
-/// number of a service and the name of a caller where it has them; or the mark that follows the
-/// letters and digits, where no command stands behind it.
+/// number of a service and the name of a caller where it has them. Before that, a mark `<`, `!` or
+/// `:` behind the letters and digits at the front does, and `>` where no call can begin there.
 ///
 /// This is for a text that is the text of no line: `read_log_line` does not say why.
 #[inline(never)]

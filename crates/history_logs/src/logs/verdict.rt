@@ -69,8 +69,8 @@ pub struct Refusal {
     /// order explains these alone, and the others change nothing. Not all that could be left out
     /// are, where the window is large.
     pub needed: Vec<usize>,
-    /// What the calls before it can have led to. Two that differ only in what open weak listings
-    /// have seen are reported alike.
+    /// What the calls before it can have led to. Two that differ only in slots, in tickets or in
+    /// what open weak listings have seen are reported alike.
     pub configurations: Vec<Configuration>,
 }
 

@@ -37,8 +37,8 @@ fn write_word(word: &[u8], line: &mut [u8], end: usize) -> usize
     at
 }
 
-#[tactic(auto, using(crate::proofs::ReplyLines::few_digits))]
 /// Appends a line of a word and a number. The line is written from its end.
+#[tactic(auto, using(crate::proofs::ReplyLines::few_digits))]
 fn append_number(word: &[u8], n: u64, out: &mut Vec<u8>) -> Result<(), AllocError>
     requires { length word.now ≤ 16 }
     ensures ok { OnOk result (out.new.items ≡ out.old.items ++ (word.now ++ decimal n ++ 10 ∷ [])) }
@@ -51,8 +51,8 @@ fn append_number(word: &[u8], n: u64, out: &mut Vec<u8>) -> Result<(), AllocErro
     out.extend_from_slice(&line[at..])
 }
 
-#[tactic(auto, using(crate::proofs::ReplyLines::few_digits))]
 /// Appends a line of a word and two numbers. The line is written from its end.
+#[tactic(auto, using(crate::proofs::ReplyLines::few_digits))]
 #[inline(always)]
 fn append_numbers(word: &[u8], first: u64, second: u64, out: &mut Vec<u8>) -> Result<(), AllocError>
     requires { length word.now ≤ 16 }

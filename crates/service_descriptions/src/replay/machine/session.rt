@@ -204,6 +204,7 @@ fn named(number: u64, earlier: &[Earlier], k: usize) -> Option<ContainerHandle>
     }
 }
 
+/// Registers a node.
 fn register(service: &mut DynamicConfig, id: UniqueNodeId) -> LineReply
     ensures served { ServesRegister service.old id (reply_of result) service.new }
     ensures kept { IsService service.new }
@@ -215,6 +216,7 @@ fn register(service: &mut DynamicConfig, id: UniqueNodeId) -> LineReply
     }
 }
 
+/// Takes out the node with the handle.
 #[tactic(auto, using(crate::proofs::Serving::deregister_served))]
 fn deregister(service: &mut DynamicConfig, handle: Option<ContainerHandle>) -> LineReply
     requires { IsService service.old }
@@ -231,6 +233,7 @@ fn deregister(service: &mut DynamicConfig, handle: Option<ContainerHandle>) -> L
     }
 }
 
+/// Attaches a port.
 fn add(service: &mut DynamicConfig, details: PortDetails) -> LineReply
     requires { IsService service.old }
     ensures served { ServesAdd service.old details (reply_of result) service.new }
@@ -245,6 +248,7 @@ fn add(service: &mut DynamicConfig, details: PortDetails) -> LineReply
     }
 }
 
+/// Releases the port with the handle.
 fn release(service: &mut DynamicConfig, handle: Option<ContainerHandle>) -> LineReply
     requires { IsService service.old }
     ensures served { ServesRelease service.old handle (reply_of result) service.new }
@@ -259,6 +263,7 @@ fn release(service: &mut DynamicConfig, handle: Option<ContainerHandle>) -> Line
     }
 }
 
+/// Lists the ports of the role.
 fn list(alloc: Global, service: &DynamicConfig, role: Role) -> Result<Reply, AllocError>
     ensures { IfOk result (ServesList service.now role) }
 {
@@ -268,6 +273,7 @@ fn list(alloc: Global, service: &DynamicConfig, role: Role) -> Result<Reply, All
     })
 }
 
+/// Counts the ports of the role.
 fn count(service: &DynamicConfig, role: Role) -> LineReply
     ensures { ServesCount service.now role (reply_of result) }
 {
@@ -277,6 +283,7 @@ fn count(service: &DynamicConfig, role: Role) -> LineReply
     }
 }
 
+/// Removes a dead node, with its ports but for those that the cleanup keeps.
 #[tactic(auto, using(crate::proofs::Serving::dead_served))]
 fn dead(service: &mut DynamicConfig, node: &UniqueNodeId, cleanup: &Cleanup) -> LineReply
     ensures served { ServesDead service.old node.now cleanup.now (reply_of result) service.new }

@@ -82,7 +82,6 @@ impl ServiceState {
     }
 }
 
-#[tactic(auto, using(iox2_dynamic::proofs::Keeping::locked_has_no_port))]
 /// Gives the commands to the service in turn, and appends a reply for each.
 ///
 /// Commands of one state are numbered from 0 over all calls. Where memory is refused, the state is
@@ -95,6 +94,7 @@ impl ServiceState {
 /// let mut replies = Vec::new(alloc);
 /// replay(alloc, state, &[command], &mut replies)?;
 /// ```
+#[tactic(auto, using(iox2_dynamic::proofs::Keeping::locked_has_no_port))]
 pub fn replay(
     alloc: Global,
     state: &mut ServiceState,
