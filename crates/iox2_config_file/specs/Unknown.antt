@@ -1,7 +1,7 @@
 -- The keys of a file that no setting has, and what was probably meant by each.
 use Rattle.std.specs.Prelude.{ℕ, ◌+◌, ◌/◌, List, [], ◌∷◌, ◌++◌, length, take, drop, map, flat_map, Bool, ◌&&◌, ◌||◌, ◌==◌, nat_le, nat_lt, nat_eq, bytes_eq, max, if◌then◌else◌, Option, Some, None, option_map, string_bytes}
 use Rattle.std.specs.Char.{to_ascii_lowercase}
-use Rattle.std.specs.List.{find, list_any, cons_option}
+use Rattle.std.specs.List.{find, list_all, list_any, cons_option}
 use Rattle.std.specs.Option.{option_or}
 use Rattle.std.specs.Str.{chars}
 use Rattle.iox2_config.specs.declared.config.Config.{Config}
@@ -77,14 +77,15 @@ abbrev pub distance_below : List ℕ → List ℕ → ℕ → Option ℕ
 distance_below a b limit =
     if nat_lt (edit_distance a b) limit then Some (edit_distance a b) else None
 
--- the first of some keys whose distance is the least of all and below a limit, or what was found
-abbrev pub nearest_below : List ℕ → ℕ → Option (Section × List ℕ) → List (Section × List ℕ)
-    → Option (Section × List ℕ)
-nearest_below key limit found [] = found
-nearest_below key limit found ((s, known) ∷ keys) =
-    if nat_lt (edit_distance key known) limit
-    then nearest_below key (edit_distance key known) (Some (s, known)) keys
-    else nearest_below key limit found keys
+-- a known key is at the least distance of some
+abbrev pub is_nearest : List ℕ → List (Section × List ℕ) → Section × List ℕ → Bool
+is_nearest key keys known =
+    list_all (λ other. nat_le (edit_distance key known.1) (edit_distance key other.1)) keys
+
+-- the first of some keys at the least distance, where that is below a limit
+abbrev pub nearest_below : List ℕ → ℕ → List (Section × List ℕ) → Option (Section × List ℕ)
+nearest_below key limit keys =
+    find (λ known. nat_lt (edit_distance key known.1) limit && is_nearest key keys known) keys
 
 -- the greatest distance at which a key is proposed: 2, or a third of the key's bytes
 abbrev pub reach : List ℕ → ℕ
@@ -93,7 +94,7 @@ reach key = max (length key / 3) 2
 -- the nearest of some keys, to a key of at most 64 bytes
 unfoldable pub nearest : List ℕ → List (Section × List ℕ) → Option (Section × List ℕ)
 nearest key keys =
-    if nat_le (length key) 64 then nearest_below key (reach key + 1) None keys else None
+    if nat_le (length key) 64 then nearest_below key (reach key + 1) keys else None
 
 -- a proposal of a known key
 abbrev pub proposal_of : Likeness → Section × List ℕ → Proposed

@@ -174,7 +174,8 @@ fn distance_below(
     if n < limit { Ok(Some(n)) } else { Ok(None) }
 }
 
-/// The first of the rows whose distance is the least, below a limit.
+/// The first of the rows at the least distance, where that is below a limit.
+#[tactic(auto, using(crate::proofs::Nearest::nearest_is))]
 fn nearest_below(
     alloc: Global,
     section: Section,
@@ -183,7 +184,7 @@ fn nearest_below(
     rows: &[Row],
 ) -> Result<Option<(Section, &'static str)>, AllocError>
     ensures { IfOk result (λ found. option_map (λ p. (p.0, p.1.now)) found
-        ≡ nearest_below key.now below None (keys_of section (map row_view rows.now))) }
+        ≡ nearest_below key.now below (keys_of section (map row_view rows.now))) }
 {
     let mut found = None;
     let mut limit = below;
