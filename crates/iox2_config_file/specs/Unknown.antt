@@ -39,20 +39,17 @@ abbrev pub is_path : List ℕ → List ℕ → List ℕ → Bool
 is_path text prefix key =
     bytes_eq (take (length prefix) text) prefix && bytes_eq (drop (length prefix) text) key
 
--- what is looked for among known keys: this key, or one that is the same but for `-`, `_` and the
--- case of letters, or one whose path is one of two texts
+-- what is looked for among known keys: one that is the same but for `-`, `_` and the case of
+-- letters, or one whose path is one of two texts
 pub data Target : Type 0 where
-  same : List ℕ → Target
   respelled : List ℕ → Target
   path : List ℕ → List ℕ → Target
 
 abbrev pub wanted_view : Wanted → Target
-wanted_view (wanted.Key key) = same key.now
 wanted_view (wanted.Respelled key) = respelled key.now
 wanted_view (wanted.Path text other) = path text.now other.now
 
 abbrev pub is_wanted : Target → Section × List ℕ → Bool
-is_wanted (same key) (s, known) = bytes_eq key known
 is_wanted (respelled key) (s, known) = bytes_eq (spelling key) (spelling known)
 is_wanted (path text other) (s, known) =
     is_path text (prefix_of s) known || is_path other (prefix_of s) known
@@ -100,9 +97,9 @@ nearest key keys =
 abbrev pub proposal_of : Likeness → Section × List ℕ → Proposed
 proposal_of likeness (s, key) = (s, key, likeness)
 
--- the same key in another table
+-- the same key but for `-`, `_` and the case of letters, in another table
 abbrev pub elsewhere : Config → List ℕ → Option Proposed
-elsewhere c key = option_map (proposal_of OtherTable) (wanted_in c (same key))
+elsewhere c key = option_map (proposal_of OtherTable) (wanted_in c (respelled key))
 
 -- of a key with a dot, the known key whose path it is: from the root on, or from its table on
 abbrev pub unquoted : Config → Section → List ℕ → Option Proposed
@@ -111,8 +108,8 @@ unquoted c s key =
     then option_map (proposal_of Quoted) (wanted_in c (path key (prefix_of s ++ key)))
     else None
 
--- what was probably meant: the same key but for `-`, `_` and the case of letters; or else the same
--- key in another table; or else the key whose path stands in quotes; or else the nearest key
+-- what was probably meant: the same key but for `-`, `_` and the case of letters; or else such a
+-- key of another table; or else the key whose path stands in quotes; or else the nearest key
 unfoldable pub proposed : Config → Section → List ℕ → Option Proposed
 proposed c s key =
     let keys = keys_of s (rows_in s c) in
