@@ -102,7 +102,7 @@ typedef uint32_t iox2sd_setting_kind;
 enum iox2sd_likeness_number {
     IOX2SD_LIKENESS_NONE = 0,
     IOX2SD_LIKENESS_SPELLING = 1,    /* It is the same but for '-', '_' and the case of letters. */
-    IOX2SD_LIKENESS_OTHER_TABLE = 2, /* It is the same, and a key of another table. */
+    IOX2SD_LIKENESS_OTHER_TABLE = 2, /* It is the same but for these, in another table. */
     IOX2SD_LIKENESS_QUOTED = 3,      /* Its path stands in quotes. */
     IOX2SD_LIKENESS_NEAR = 4         /* It is the nearest key of the table. */
 };
@@ -193,7 +193,7 @@ IOX2SD_CHECKED iox2sd_count_answer iox2sd_config_faults_str(const char *text,
  * their paths, as TOML writes them, one after the other, to the front of `paths`, where all of them
  * fit. It does so whether values are allowed or not. With each comes the path of the known key that
  * was probably meant: the key of its table that is the same but for '-', '_' and the case of
- * letters; or else the same key of another table; or else the key whose path stands in quotes; or
+ * letters; or else such a key of another table; or else the key whose path stands in quotes; or
  * else the nearest key of its table.
  * Errors, after which both are as they were: IOX2SD_STATUS_NULL; IOX2SD_STATUS_NOT_UTF8;
  * IOX2SD_STATUS_TOO_DEEP; IOX2SD_STATUS_NOT_TOML; IOX2SD_STATUS_BUFFER_TOO_SHORT, with the lengths

@@ -60,7 +60,7 @@ enum class SettingKind : std::uint32_t {
 enum class Likeness : std::uint32_t {
     None = IOX2SD_LIKENESS_NONE,
     Spelling = IOX2SD_LIKENESS_SPELLING,  ///< The same but for `-`, `_` and the case of letters.
-    OtherTable = IOX2SD_LIKENESS_OTHER_TABLE,  ///< The same, and a key of another table.
+    OtherTable = IOX2SD_LIKENESS_OTHER_TABLE,  ///< The same but for these, in another table.
     Quoted = IOX2SD_LIKENESS_QUOTED,           ///< Its path stands in quotes.
     Near = IOX2SD_LIKENESS_NEAR,               ///< The nearest key of the table.
 };

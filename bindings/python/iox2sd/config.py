@@ -186,7 +186,7 @@ class Likeness(Choice):
     SPELLING = 1
     """It is the same but for `-`, `_` and the case of letters."""
     OTHER_TABLE = 2
-    """It is the same, and a key of another table."""
+    """It is a key of another table, and the same but for `-`, `_` and the case of letters."""
     QUOTED = 3
     """Its path stands in quotes."""
     NEAR = 4
@@ -207,7 +207,7 @@ class UnknownKey(Value):
     """Its path as TOML writes it, as `defaults.event.max-node`."""
     meant: Optional[str]
     """The path of the known key that was probably meant: the same key but for `-`, `_` and case, or
-    else the same key of another table, the one whose path stands in quotes, or the nearest one."""
+    else such a key of another table, the one whose path stands in quotes, or the nearest one."""
     likeness: Optional[Likeness]
     """How that key is like this one."""
     reason: str

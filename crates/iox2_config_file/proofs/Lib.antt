@@ -1,4 +1,5 @@
 pub mod Distances
+pub mod Nearest
 pub mod ReadBack
 pub mod Reading
 pub mod Rowed

@@ -176,12 +176,21 @@ bare_text : (k : List ℕ) → is_bare_key k ≡ true → key_text k ≡ k
 unfolding key_text
 bare_text k bare = rw bare refl
 
-pub lines_append : (a b : List ℕ) → is_line a ≡ true → is_line b ≡ true → is_line (a ++ b) ≡ true
-lines_append a b one other = rw (list_all-append is_non_eol a b, one, other) refl
+-- the bytes may stand in a comment: none ends a line
+abbrev pub is_comment : List ℕ → Bool
+is_comment bytes = list_all is_non_eol bytes
 
-bare_line : (k : List ℕ) → list_all is_bare k ≡ true → is_line k ≡ true
-bare_line [] bare = refl
-bare_line (c ∷ cs) bare = grind (arith, nat_tests, bare_line cs)
+pub line_comment : (line : List ℕ) → is_line line ≡ true → is_comment line ≡ true
+line_comment [] plain = refl
+line_comment (c ∷ cs) plain = grind (arith, nat_tests, line_comment cs)
+
+pub comments_append : (a b : List ℕ) → is_comment a ≡ true → is_comment b ≡ true
+    → is_comment (a ++ b) ≡ true
+comments_append a b one other = rw (list_all-append is_non_eol a b, one, other) refl
+
+bare_comment : (k : List ℕ) → list_all is_bare k ≡ true → is_comment k ≡ true
+bare_comment [] bare = refl
+bare_comment (c ∷ cs) bare = grind (arith, nat_tests, bare_comment cs)
 
 pub block_is : (a b : List ℕ) (es : List Expression) → a ≡ b → Block b es → Block a es
 block_is a b es is block = subst (λ text. Block text es) (sym is) block
@@ -189,7 +198,7 @@ block_is a b es is block = subst (λ text. Block text es) (sym is) block
 unset_block : (key : List ℕ) → is_bare_key key ≡ true → Block (assignment key absent) []
 unset_block key bare =
     let text = 32 ∷ (key ++ codes " is not set") in
-    let line : is_line text ≡ true = grind (arith, bare_line, lines_append) in
+    let line : is_comment text ≡ true = grind (arith, bare_comment, comments_append) in
     block_is _ (35 ∷ (text ++ 10 ∷ [])) [] (simp append_assoc refl) (block_comment text line)
 
 -- what stands below the comment of a setting
@@ -204,9 +213,10 @@ assignment_block key k v (Some d) bare kept =
 abbrev comment : List ℕ → List ℕ → List ℕ
 comment about default = 32 ∷ (about ++ (codes " By default " ++ (default ++ codes ".")))
 
-comment_line : (about default : List ℕ) → is_line about ≡ true → is_line default ≡ true
-    → is_line (comment about default) ≡ true
-comment_line about default one other = grind (arith, lines_append)
+is_comment_of : (about default : List ℕ) → is_line about ≡ true → is_comment default ≡ true
+    → is_comment (comment about default) ≡ true
+is_comment_of about default one other =
+    let said = line_comment about one in grind (arith, comments_append)
 
 entry_layout : (about default rest : List ℕ)
     → codes "\n# " ++ (about ++ (codes " By default " ++ (default ++ (codes ".\n" ++ rest))))
@@ -215,14 +225,14 @@ entry_layout about default rest = simp append_assoc refl
 
 entry_block : (row : Row) (default : SettingValue) (key : List ℕ) (k : Kind) (v : SettingValue)
     (o : Option Data) → row.key.now ≡ key → is_line row.about.now ≡ true
-    → is_line (value_text default) ≡ true → is_bare_key key ≡ true → Keeps k v o
+    → is_comment (value_text default) ≡ true → is_bare_key key ≡ true → Keeps k v o
     → Block (entry_text row default v) (lines_of ((key, o) ∷ []))
 entry_block row default key k v o is about line bare kept =
     let text = value_text default in
     let below : Block (assignment row.key.now v) (lines_of ((key, o) ∷ [])) =
     rw is (assignment_block key k v o bare kept) in
     let comment_here = block_comment (comment row.about.now text)
-    (comment_line row.about.now text about line) in
+    (is_comment_of row.about.now text about line) in
     block_is _ _ _ (entry_layout row.about.now text (assignment row.key.now v))
     (block_append (10 ∷ []) _ [] _ block_newline (block_append _ _ [] _ comment_here below))
 
@@ -238,7 +248,7 @@ are_set _ _ = true
 -- settings that are written with their defaults
 pub record AreWritten (defaults xs : List Setting) : Type 0 where
   pub rows : rows_of defaults ≡ rows_of xs
-  pub lines : list_all (λ d. is_line (value_text d.value)) defaults ≡ true
+  pub lines : list_all (λ d. is_comment (value_text d.value)) defaults ≡ true
   pub bare : list_all (λ x. is_bare_key x.key) xs ≡ true
   pub kinded : list_all (λ x. has_kind x.kind x.value) xs ≡ true
   pub fit : list_all (λ x. value_fits x.value) xs ≡ true

@@ -25,7 +25,7 @@ use Rattle.iox2_config_file.specs.Settings.{is_line, Setting, event_settings, se
 use Rattle.iox2_config_file.specs.Values.{SettingValue, text, settings}
 use Rattle.iox2_config_file.specs.Write.{value_text, value_fits, section_misfits, located_misfits, misfits, IsHeaderText, IsTableText, IsTablesText, IsConfigText}
 use Rattle.iox2_config_file.proofs.Reading.{Block, block_append, block_none, block_newline, block_comment, block_header, read_document}
-use Rattle.iox2_config_file.proofs.Written.{Pair, lines_of, set_all, AreWritten, lines_append, rows_of, pair_of, entries_block}
+use Rattle.iox2_config_file.proofs.Written.{Pair, lines_of, set_all, AreWritten, line_comment, is_comment, comments_append, rows_of, pair_of, entries_block}
 
 -- the header of a table, as the reader has it
 abbrev pub headers : Section → List Expression
@@ -59,9 +59,10 @@ named_block : (about name : List ℕ) (key : Key) → is_line about ≡ true →
     → Block (codes "\n# " ++ (about ++ (codes "\n[" ++ (name ++ codes "]\n"))))
     ((key, std_table) ∷ [])
 named_block about name key line is short =
+    let said = block_comment (32 ∷ about) (line_comment about line) in
     rw (named_layout, is)
     (block_append (10 ∷ []) _ [] _ block_newline
-    (block_append _ _ [] _ (block_comment (32 ∷ about) line) (block_header key short)))
+    (block_append _ _ [] _ said (block_header key short)))
 
 head_block : (head name : List ℕ) (key : Key) → name ≡ dotted_text key → length key.0 < 80
     → (about : List ℕ) × (is_line about ≡ true)
@@ -145,28 +146,28 @@ pub rows_in_all : (one other : Config) (s : Section)
 rows_in_all one other s = grind arith
 
 -- a value is written in one line
-word_line : (bytes : List ℕ) → list_all is_word bytes ≡ true → is_line bytes ≡ true
-word_line [] all = refl
-word_line (c ∷ cs) all = grind (arith, nat_tests, word_line cs)
+word_comment : (bytes : List ℕ) → list_all is_word bytes ≡ true → is_comment bytes ≡ true
+word_comment [] all = refl
+word_comment (c ∷ cs) all = grind (arith, nat_tests, word_comment cs)
 
-decimal_line : (n : ℕ) → n < 2 ^ 63 → is_line (decimal n) ≡ true
-decimal_line n fits = word_line (decimal n) (IsWord-pos n fits).all
+decimal_comment : (n : ℕ) → n < 2 ^ 63 → is_comment (decimal n) ≡ true
+decimal_comment n fits = word_comment (decimal n) (IsWord-pos n fits).all
 
 abbrev is_text_line : SettingValue → Bool
-is_text_line (text s) = is_line (string_text s)
+is_text_line (text s) = is_comment (string_text s)
 is_text_line settings = false
 is_text_line _ = true
 
 value_line : (v : SettingValue) → value_fits v ≡ true → is_text_line v ≡ true
-    → is_line (value_text v) ≡ true
-value_line v fits line = grind (arith, decimal_line, nat_tests, mod-lt, lines_append)
+    → is_comment (value_text v) ≡ true
+value_line v fits line = grind (arith, decimal_comment, nat_tests, mod-lt, comments_append)
 
 -- settings that are all written in one line each
 abbrev AreShort : List Setting → Type 0
 AreShort xs = list_all (λ x. value_fits x.value && is_text_line x.value) xs ≡ true
 
 short_lines : (xs : List Setting) → AreShort xs
-    → list_all (λ x. is_line (value_text x.value)) xs ≡ true
+    → list_all (λ x. is_comment (value_text x.value)) xs ≡ true
 short_lines [] h = refl
 short_lines (x ∷ xs) h = grind (arith, value_line, short_lines xs)
 

@@ -1,11 +1,10 @@
 -- The tables of the file, and the settings in each: the key of each, what it may be, and where it
 -- lies in the configuration.
-use Rattle.std.specs.Prelude.{ℕ, Bool, List, [], Option, Some, None, codes, flat_map, option_map, slice_get, ◌∷◌, ◌++◌}
+use Rattle.std.specs.Prelude.{ℕ, Bool, not, ◌&&◌, ◌||◌, ◌==◌, nat_le, List, [], Option, Some, None, codes, flat_map, option_map, slice_get, ◌∷◌, ◌++◌}
 use Rattle.std.specs.List.{list_all}
 use Rattle.iox2_config_file.specs.declared.section.Row.{Row}
 use Rattle.iox2_config_file.specs.declared.section.Section.{Section}
 use Rattle.iox2_config_file.specs.declared.section.Section.TheVariants as section
-use Rattle.toml_parser.specs.Lexical.{is_non_eol}
 use Rattle.std.specs.Duration.{as_nanos}
 use Rattle.std.specs.declared.time.Duration.{Duration}
 use Rattle.iox2_config.specs.declared.config.choices.BackpressureStrategy.{BackpressureStrategy}
@@ -50,11 +49,15 @@ header_name section.Root = None
 header_name section.Defaults = None
 header_name s = Some (dotted (table_path s))
 
--- the text may stand in a comment: it has no end of a line
-abbrev pub is_line : List ℕ → Bool
-is_line line = list_all is_non_eol line
+-- a byte that a text of JSON has as it is: no control character, and neither `"` nor `\`
+abbrev pub is_unescaped : ℕ → Bool
+is_unescaped c = nat_le 32 c && not ((c == 34 || c == 92) || c == 127)
 
--- what is said of each row may stand in a comment
+-- the text may stand in a comment, and as it is in a text of JSON
+abbrev pub is_line : List ℕ → Bool
+is_line line = list_all is_unescaped line
+
+-- what is said of each row may stand in both
 abbrev pub are_lines : List Row → Bool
 are_lines rows = list_all (λ row. is_line row.about.now) rows
 

@@ -1,7 +1,7 @@
 -- The keys of a file that no setting has, and what was probably meant by each.
 use Rattle.std.specs.Prelude.{ℕ, ◌+◌, ◌/◌, List, [], ◌∷◌, ◌++◌, length, take, drop, map, flat_map, Bool, ◌&&◌, ◌||◌, ◌==◌, nat_le, nat_lt, nat_eq, bytes_eq, max, if◌then◌else◌, Option, Some, None, option_map, string_bytes}
 use Rattle.std.specs.Char.{to_ascii_lowercase}
-use Rattle.std.specs.List.{find, list_any, cons_option}
+use Rattle.std.specs.List.{find, list_all, list_any, cons_option}
 use Rattle.std.specs.Option.{option_or}
 use Rattle.std.specs.Str.{chars}
 use Rattle.iox2_config.specs.declared.config.Config.{Config}
@@ -39,20 +39,17 @@ abbrev pub is_path : List ℕ → List ℕ → List ℕ → Bool
 is_path text prefix key =
     bytes_eq (take (length prefix) text) prefix && bytes_eq (drop (length prefix) text) key
 
--- what is looked for among known keys: this key, or one that is the same but for `-`, `_` and the
--- case of letters, or one whose path is one of two texts
+-- what is looked for among known keys: one that is the same but for `-`, `_` and the case of
+-- letters, or one whose path is one of two texts
 pub data Target : Type 0 where
-  same : List ℕ → Target
   respelled : List ℕ → Target
   path : List ℕ → List ℕ → Target
 
 abbrev pub wanted_view : Wanted → Target
-wanted_view (wanted.Key key) = same key.now
 wanted_view (wanted.Respelled key) = respelled key.now
 wanted_view (wanted.Path text other) = path text.now other.now
 
 abbrev pub is_wanted : Target → Section × List ℕ → Bool
-is_wanted (same key) (s, known) = bytes_eq key known
 is_wanted (respelled key) (s, known) = bytes_eq (spelling key) (spelling known)
 is_wanted (path text other) (s, known) =
     is_path text (prefix_of s) known || is_path other (prefix_of s) known
@@ -77,14 +74,15 @@ abbrev pub distance_below : List ℕ → List ℕ → ℕ → Option ℕ
 distance_below a b limit =
     if nat_lt (edit_distance a b) limit then Some (edit_distance a b) else None
 
--- the first of some keys whose distance is the least of all and below a limit, or what was found
-abbrev pub nearest_below : List ℕ → ℕ → Option (Section × List ℕ) → List (Section × List ℕ)
-    → Option (Section × List ℕ)
-nearest_below key limit found [] = found
-nearest_below key limit found ((s, known) ∷ keys) =
-    if nat_lt (edit_distance key known) limit
-    then nearest_below key (edit_distance key known) (Some (s, known)) keys
-    else nearest_below key limit found keys
+-- a known key is at the least distance of some
+abbrev pub is_nearest : List ℕ → List (Section × List ℕ) → Section × List ℕ → Bool
+is_nearest key keys known =
+    list_all (λ other. nat_le (edit_distance key known.1) (edit_distance key other.1)) keys
+
+-- the first of some keys at the least distance, where that is below a limit
+abbrev pub nearest_below : List ℕ → ℕ → List (Section × List ℕ) → Option (Section × List ℕ)
+nearest_below key limit keys =
+    find (λ known. nat_lt (edit_distance key known.1) limit && is_nearest key keys known) keys
 
 -- the greatest distance at which a key is proposed: 2, or a third of the key's bytes
 abbrev pub reach : List ℕ → ℕ
@@ -93,15 +91,15 @@ reach key = max (length key / 3) 2
 -- the nearest of some keys, to a key of at most 64 bytes
 unfoldable pub nearest : List ℕ → List (Section × List ℕ) → Option (Section × List ℕ)
 nearest key keys =
-    if nat_le (length key) 64 then nearest_below key (reach key + 1) None keys else None
+    if nat_le (length key) 64 then nearest_below key (reach key + 1) keys else None
 
 -- a proposal of a known key
 abbrev pub proposal_of : Likeness → Section × List ℕ → Proposed
 proposal_of likeness (s, key) = (s, key, likeness)
 
--- the same key in another table
+-- the same key but for `-`, `_` and the case of letters, in another table
 abbrev pub elsewhere : Config → List ℕ → Option Proposed
-elsewhere c key = option_map (proposal_of OtherTable) (wanted_in c (same key))
+elsewhere c key = option_map (proposal_of OtherTable) (wanted_in c (respelled key))
 
 -- of a key with a dot, the known key whose path it is: from the root on, or from its table on
 abbrev pub unquoted : Config → Section → List ℕ → Option Proposed
@@ -110,8 +108,8 @@ unquoted c s key =
     then option_map (proposal_of Quoted) (wanted_in c (path key (prefix_of s ++ key)))
     else None
 
--- what was probably meant: the same key but for `-`, `_` and the case of letters; or else the same
--- key in another table; or else the key whose path stands in quotes; or else the nearest key
+-- what was probably meant: the same key but for `-`, `_` and the case of letters; or else such a
+-- key of another table; or else the key whose path stands in quotes; or else the nearest key
 unfoldable pub proposed : Config → Section → List ℕ → Option Proposed
 proposed c s key =
     let keys = keys_of s (rows_in s c) in

@@ -63,8 +63,6 @@ fn is_respelled(key: &[u8], known: &[u8]) -> bool
 /// Which key is looked for.
 #[derive(Clone, Copy)]
 pub(crate) enum Wanted<'a> {
-    /// This key.
-    Key(&'a str),
     /// The key that is the same but for `-`, `_` and the case of letters.
     Respelled(&'a str),
     /// The key whose path is one of these two texts.
@@ -86,7 +84,6 @@ fn is_wanted(wanted: Wanted<'_>, section: Section, key: &str) -> bool
     ensures { result ≡ is_wanted (wanted_view wanted.entry) (section, key.now) }
 {
     match wanted {
-        Wanted::Key(name) => name == key,
         Wanted::Respelled(name) => is_respelled(name.as_bytes(), key.as_bytes()),
         Wanted::Path(text, other) => {
             is_path_of(text, section, key) || is_path_of(other, section, key)
@@ -126,7 +123,7 @@ fn find_wanted(wanted: Wanted<'_>) -> Option<(Section, &'static str)>
 pub enum Likeness {
     /// It is a key of the same table, and the same but for `-`, `_` and the case of letters.
     Spelling,
-    /// It is the same, and a key of another table.
+    /// It is a key of another table, and the same but for `-`, `_` and the case of letters.
     OtherTable,
     /// Its path, from the root or from the table on, stands in quotes.
     Quoted,
@@ -174,7 +171,8 @@ fn distance_below(
     if n < limit { Ok(Some(n)) } else { Ok(None) }
 }
 
-/// The first of the rows whose distance is the least, below a limit.
+/// The first of the rows at the least distance, where that is below a limit.
+#[tactic(auto, using(crate::proofs::Nearest::nearest_is))]
 fn nearest_below(
     alloc: Global,
     section: Section,
@@ -183,7 +181,7 @@ fn nearest_below(
     rows: &[Row],
 ) -> Result<Option<(Section, &'static str)>, AllocError>
     ensures { IfOk result (λ found. option_map (λ p. (p.0, p.1.now)) found
-        ≡ nearest_below key.now below None (keys_of section (map row_view rows.now))) }
+        ≡ nearest_below key.now below (keys_of section (map row_view rows.now))) }
 {
     let mut found = None;
     let mut limit = below;
@@ -253,7 +251,7 @@ fn unquoted(alloc: Global, section: Section, key: &str) -> Result<Option<Proposa
 }
 
 /// What was probably meant by a key that a table does not have: the same key but for `-`, `_` and
-/// the case of letters; or else the same key in another table; or else the key whose path stands in
+/// the case of letters; or else such a key of another table; or else the key whose path stands in
 /// quotes; or else the nearest key.
 #[tactic(auto, unfolding(crate::specs::Unknown::proposed))]
 pub(crate) fn propose(
@@ -269,7 +267,8 @@ pub(crate) fn propose(
     if let Some(found) = proposal_of(Likeness::Spelling, respelled) {
         return Ok(Some(found));
     }
-    if let Some(found) = proposal_of(Likeness::OtherTable, find_wanted(Wanted::Key(key))) {
+    let elsewhere = find_wanted(Wanted::Respelled(key));
+    if let Some(found) = proposal_of(Likeness::OtherTable, elsewhere) {
         return Ok(Some(found));
     }
     if let Some(found) = unquoted(alloc, section, key)? {

@@ -25,8 +25,8 @@ pub struct PlainUnknown {
     /// The table in which it stands, as of a fault.
     pub table: u32,
     /// How the known key that was probably meant is like it. 0: none is. 1: it is the same but for
-    /// `-`, `_` and case. 2: it is the same, in another table. 3: its path stands in quotes. 4: it
-    /// is the nearest one.
+    /// `-`, `_` and case. 2: it is the same but for these, in another table. 3: its path stands in
+    /// quotes. 4: it is the nearest one.
     pub likeness: u32,
     /// The line where it begins, from 1; 0 where there is no position.
     pub line: usize,

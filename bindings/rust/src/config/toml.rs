@@ -103,7 +103,7 @@ pub struct UnknownKey {
     /// The path of the key, as TOML writes it.
     pub key: String,
     /// The path of the known key that was probably meant: the same key but for `-`, `_` and case, or
-    /// else the same key of another table, the one whose path stands in quotes, or the nearest one.
+    /// else such a key of another table, the one whose path stands in quotes, or the nearest one.
     pub meant: Option<String>,
     /// How that key is like this one.
     pub likeness: Option<Likeness>,

@@ -63,7 +63,7 @@ choices! {
     Likeness of u32 in "config" {
         /// It is the same but for `-`, `_` and the case of letters.
         Spelling = IOX2SD_LIKENESS_SPELLING;
-        /// It is the same, and a key of another table.
+        /// It is a key of another table, and the same but for `-`, `_` and the case of letters.
         OtherTable = IOX2SD_LIKENESS_OTHER_TABLE;
         /// Its path stands in quotes.
         Quoted = IOX2SD_LIKENESS_QUOTED;

@@ -6,8 +6,9 @@ use test_support::printing::is_printed_as;
 
 /// A file with one unknown key, and what is said of it. The second to the ninth misspell a key: a
 /// letter is dropped, doubled, swapped with the next one; `-` is `_`; letters are capital; the key
-/// stands in another table; its path stands in quotes; its path is written with `_`.
-const MISSPELT: [(&str, &str); 18] = [
+/// stands in another table; its path stands in quotes; its path is written with `_`. The last ones
+/// stand in another table, and are written with `_` or capital letters.
+const MISSPELT: [(&str, &str); 22] = [
     (
         "[defaults.event]\nmax-listener = 1\n",
         "2:1: warning: defaults.event.max-listener: this table has no such key, \
@@ -92,6 +93,26 @@ const MISSPELT: [(&str, &str); 18] = [
     (
         "[global]\n'a\tb\"' = 1\n",
         "2:1: warning: global.'a\\u{9}b\"': this table has no such key",
+    ),
+    (
+        "[publish_subscribe]\nmax-nodes = 1\n",
+        "1:2: warning: publish_subscribe: this table has no such key, \
+         defaults.publish-subscribe may be meant",
+    ),
+    (
+        "[requestResponse]\n",
+        "1:2: warning: requestResponse: this table has no such key, \
+         defaults.request-response may be meant",
+    ),
+    (
+        "[global]\nmax_nodes = 3\n",
+        "2:1: warning: global.max_nodes: this table has no such key, \
+         defaults.publish-subscribe.max-nodes may be meant",
+    ),
+    (
+        "[defaults.event]\nmax_clients = 1\n",
+        "2:1: warning: defaults.event.max_clients: this table has no such key, \
+         defaults.request-response.max-clients may be meant",
     ),
 ];
 
