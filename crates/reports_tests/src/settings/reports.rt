@@ -56,7 +56,7 @@ const RUNS: [Run<'_>; 13] = [
          \"message\":\"this table has no such key, defaults.event.max-nodes may be meant\",\
          \"severity\":\"warning\"}\n\
          {\"column\":1,\"file\":\"bad.toml\",\
-         \"key\":\"defaults.event.\\\"\\\\u001B[31m\u{9b}1m\\\"\",\"line\":5,\
+         \"key\":\"defaults.event.\\\"\\\\u001B[31m\\\\u{9b}1m\\\"\",\"line\":5,\
          \"message\":\"this table has no such key\",\"severity\":\"warning\"}\n",
         "",
     ),
