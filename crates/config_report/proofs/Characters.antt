@@ -82,7 +82,7 @@ unfolding printable
 clear_printable text = clear_all (chars text)
 
 line_of : (text : List ℕ) → IsClear (in_line text)
-line_of text = choose (has_no_control text) text (printable text) (λ e. e) (clear_printable text)
+line_of text = clear_printable text
 
 key_of : (key : Option (List ℕ)) → key_in_line (option_map in_line key) ≡ true
 key_of None = refl

@@ -7,11 +7,12 @@ use Rattle.iox2_config.specs.declared.config.defaults.PublishSubscribe.{PublishS
 use Rattle.config_report.specs.Notes.{Note, note, position_for}
 use Rattle.config_report.specs.declared.contradiction.Contradiction.{Contradiction as Held}
 use Rattle.config_report.specs.declared.contradiction.Effect.{Effect}
-use Rattle.config_report.specs.declared.contradiction.Effect.TheVariants.{UnsentEvent, ManyRoots, SameNames, LongNames, SmallBuffer, UselessLimit}
+use Rattle.config_report.specs.declared.contradiction.Effect.TheVariants.{UnsentEvent, ManyRoots, SameNames, LongNames, LongPath, SmallBuffer, UselessLimit}
 use Rattle.config_report.specs.declared.contradiction.Side.{Side as HeldSide}
 use Rattle.config_report.specs.declared.contradictions.Candidate.{Candidate}
 use Rattle.config_report.specs.declared.contradictions.Suffix.{Suffix}
 use Rattle.iox2_config_file.specs.declared.section.Section.TheVariants as section
+use Rattle.iox2_texts.specs.Path.{join}
 
 -- a setting: its table, its key and its value
 abbrev pub Side : Type 0
@@ -97,6 +98,22 @@ long_name prefix s =
     where_so (is_long prefix s.1) (suffix_side s)
     (Some (section.Global, codes "prefix", text prefix)) LongNames
 
+-- the path of an entry of the root path has more than 255 bytes
+abbrev pub is_long_path : List ℕ → List ℕ → Bool
+is_long_path root entry = nat_lt 255 (length (join root entry))
+
+-- a directory below the root path whose path would be too long
+abbrev pub long_directory : List ℕ → Section → List ℕ → List Contradiction
+long_directory root s entry =
+    where_so (is_long_path root entry) (s, codes "directory", text entry)
+    (Some (section.Global, codes "root-path", text root)) LongPath
+
+-- the directories of services and of nodes
+abbrev pub directory_contradictions : GlobalSettings → List Contradiction
+directory_contradictions g =
+    long_directory g.root_path section.Service g.service.directory
+    ++ long_directory g.root_path section.Node g.node.directory
+
 -- the history is larger than a subscriber's buffer, which may not overflow
 abbrev pub has_small_buffer : PublishSubscribe → Bool
 has_small_buffer p =
@@ -176,7 +193,7 @@ abbrev pub global_contradictions : GlobalSettings → List Contradiction
 global_contradictions g =
     root_contradictions g
     ++ (suffix_contradictions (suffixes_of g.service)
-    ++ flat_map (long_name g.prefix) (suffixes_of g.service))
+    ++ (flat_map (long_name g.prefix) (suffixes_of g.service) ++ directory_contradictions g))
 
 -- the settings of services that contradict each other
 abbrev pub default_contradictions : Defaults → List Contradiction
@@ -197,6 +214,8 @@ effect_text ManyRoots =
 effect_text SameNames = codes "files of both kinds cannot be distinguished by their names"
 effect_text LongNames =
     codes "with a hash text of 27 bytes between them, names of files have more than 255 bytes"
+effect_text LongPath =
+    codes "joined they have more than 255 bytes, so there is no such directory"
 effect_text SmallBuffer =
     codes "without safe overflow a buffer must hold the whole history"
 effect_text UselessLimit = codes "with this limit no service of the pattern can be used"

@@ -23,9 +23,9 @@ at_text (Some p) = decimal p.line ++ (codes ":" ++ (decimal p.column ++ codes ":
 abbrev pub has_no_control : List ℕ → Bool
 has_no_control text = list_all (λ c. nat_le 32 c) text
 
--- a text, with its control characters escaped if it has one below 32
+-- a text, with its control characters escaped
 abbrev pub in_line : List ℕ → List ℕ
-in_line text = if has_no_control text then text else printable text
+in_line text = printable text
 
 -- something that is said of a file: where, how much it weighs, of which key, and what
 pub record Note : Type 0 where

@@ -1,5 +1,5 @@
 -- The text of settings, and of what follows from them.
-use Rattle.std.specs.Prelude.{◌≡◌, ℕ, Bool, true, false, not, bytes_eq, nat_eq, List, [], ◌∷◌, ◌++◌, replicate, ◌-◌, ◌^◌, codes, flat_map, length, nat_lt, if◌then◌else◌, Option, Some, None}
+use Rattle.std.specs.Prelude.{◌≡◌, ℕ, Bool, true, false, not, bytes_eq, nat_eq, List, [], ◌∷◌, ◌++◌, replicate, ◌-◌, ◌^◌, codes, flat_map, if◌then◌else◌, Option, Some, None}
 use Rattle.config_report.specs.Prelude.{Config, Section, Setting, prefix_of, settings_in, SettingValue, concat, Defaults, decimal, padded, format_spec, IsDefaultConfig, Service, sections, value_text, value_view}
 use Rattle.iox2_config.specs.declared.config.choices.AllocationStrategy.TheVariants.{BestFit, PowerOfTwo, Static}
 use Rattle.iox2_config.specs.declared.config.choices.BackpressureStrategy.TheVariants.{RetryUntilDelivered, DiscardData}
@@ -8,6 +8,7 @@ use Rattle.iox2_static.specs.RequestResponse.{request_response_of, client_limits
 use Rattle.iox2_config.specs.declared.config.global.Node.{Node}
 use Rattle.iox2_static.specs.Chunks.{ReportsGreatest}
 use Rattle.iox2_texts.specs.Path.{join}
+use Rattle.config_report.specs.Contradictions.{is_long_path}
 use Rattle.config_report.specs.Printable.{printable_line}
 use Rattle.config_report.specs.declared.text.FileKind.{FileKind}
 use Rattle.config_report.specs.declared.text.ValuePair.{ValuePair as HeldPair}
@@ -96,7 +97,7 @@ named_line name text =
 -- the path of an entry of the root path, where a path may be as long
 abbrev pub directory_text : List ℕ → List ℕ → List ℕ
 directory_text root entry =
-    if nat_lt 255 (length (join root entry))
+    if is_long_path root entry
     then codes "none: its path would have more than 255 bytes"
     else join root entry
 

@@ -23,6 +23,8 @@ pub(crate) enum Effect {
     SameNames,
     /// Names of files that would have more than 255 bytes.
     LongNames,
+    /// A path of a directory that would have more than 255 bytes.
+    LongPath,
     /// A buffer that cannot hold the history.
     SmallBuffer,
     /// A limit of 0.
@@ -41,6 +43,9 @@ impl fmt::Display for Effect {
             Effect::SameNames => "files of both kinds cannot be distinguished by their names",
             Effect::LongNames => {
                 "with a hash text of 27 bytes between them, names of files have more than 255 bytes"
+            }
+            Effect::LongPath => {
+                "joined they have more than 255 bytes, so there is no such directory"
             }
             Effect::SmallBuffer => { "without safe overflow a buffer must hold the whole history" }
             Effect::UselessLimit => "with this limit no service of the pattern can be used",

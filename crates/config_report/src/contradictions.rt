@@ -4,6 +4,7 @@ ghost use Rattle.std.specs.Prelude.{option_copied};
 ghost use Rattle.iox2_config_file.specs.Write.{value_view};
 ghost use Rattle.config_report.specs.Contradictions.{candidate_view, contradiction_view};
 ghost use Rattle.config_report.specs.Contradictions.{contradictions_in, default_contradictions};
+ghost use Rattle.config_report.specs.Contradictions.{directory_contradictions, long_directory};
 ghost use Rattle.config_report.specs.Contradictions.{event_contradictions, global_contradictions};
 ghost use Rattle.config_report.specs.Contradictions.{has_small_buffer, history_contradictions};
 ghost use Rattle.config_report.specs.Contradictions.{is_long, is_relative, limits_of, long_name};
@@ -11,13 +12,15 @@ ghost use Rattle.config_report.specs.Contradictions.{other_view, root_contradict
 ghost use Rattle.config_report.specs.Contradictions.{side_view, suffix_contradictions, suffix_side};
 ghost use Rattle.config_report.specs.Contradictions.{suffix_view, suffixes_of, unsent_event};
 ghost use Rattle.config_report.specs.Contradictions.{useless_limit, where_so};
+ghost use Rattle.iox2_texts.specs.Path.{MakesJoined};
 
 use crate::contradiction::{Contradiction, Effect, Side};
 use iox2_config::config::{
     Config, Defaults, Event, Global as GlobalSettings, PublishSubscribe, Service,
 };
 use iox2_config_file::{Section, SettingValue};
-use iox2_texts::paths::FileName;
+use iox2_texts::bounded::SemanticStringError;
+use iox2_texts::paths::{FileName, Path};
 use std::alloc::{AllocError, Global};
 
 /// How the names of a kind of services' files end.
@@ -172,6 +175,42 @@ fn add_names<'a>(
     Ok(())
 }
 
+/// A directory below the root path, if its path would be too long. `path` is what joining the two
+/// gives.
+fn directory<'a>(
+    root: &'a Path,
+    section: Section,
+    entry: &'a Path,
+    path: &Result<Path, SemanticStringError>,
+) -> Candidate<'a>
+    ensures { MakesJoined root.now entry.now path.now
+        → candidate_view result ≡ long_directory root.now section entry.now }
+{
+    let entry = SettingValue::Text(entry.as_str());
+    let root = SettingValue::Text(root.as_str());
+    Candidate {
+        holds: matches!(path, Err(_)),
+        found: Contradiction {
+            one: side(section, "directory", entry),
+            other: Some(side(Section::Global, "root-path", root)),
+            effect: Effect::LongPath,
+        },
+    }
+}
+
+/// The directories of services and of nodes.
+fn directories(global: &GlobalSettings) -> [Candidate<'_>; 2]
+    ensures { flat_map candidate_view result ≡ directory_contradictions global.now }
+{
+    let root = global.root_path();
+    let services = global.service_dir();
+    let nodes = global.node_dir();
+    [
+        directory(root, Section::Service, &global.service.directory, &services),
+        directory(root, Section::Node, &global.node.directory, &nodes),
+    ]
+}
+
 /// Whether the history is larger than a subscriber's buffer, which may not overflow.
 fn has_small_buffer(settings: &PublishSubscribe) -> bool
     ensures { result ≡ has_small_buffer settings.now }
@@ -310,7 +349,8 @@ fn add_global<'a>(
     let kinds = suffixes(&global.service);
     add_root(list, global)?;
     add_suffixes(list, &kinds)?;
-    add_names(list, &global.prefix, &kinds)
+    add_names(list, &global.prefix, &kinds)?;
+    add_all(list, &directories(global))
 }
 
 /// Adds all settings of services that contradict each other.

@@ -4,7 +4,7 @@ ghost use Rattle.std.specs.Prelude.{option_map, slice_index_or, string_bytes};
 ghost use Rattle.iox2_config_file.specs.Settings.{table_path};
 ghost use Rattle.iox2_config_file.specs.Unknown.{proposal_view};
 ghost use Rattle.config_report.specs.Findings.{sort_key_of, IsToml};
-ghost use Rattle.config_report.specs.Notes.{at_text, fault_topic, finding_view, has_no_control};
+ghost use Rattle.config_report.specs.Notes.{at_text, fault_topic, finding_view};
 ghost use Rattle.config_report.specs.Notes.{in_line, meant_text, note, note_text, position_for};
 ghost use Rattle.config_report.specs.Notes.{severity_text, topic_note};
 ghost use Rattle.config_report.specs.Notes.{topic_path, topic_position, unknown_topic};
@@ -103,22 +103,11 @@ pub(crate) fn sort_key(finding: &Finding) -> (usize, usize)
     }
 }
 
-/// Whether no byte is a control character below 32.
-fn has_no_control(text: &[u8]) -> bool
-    ensures { result ≡ has_no_control text.now }
-{
-    text.iter().all(|byte| 32 <= *byte)
-}
-
-/// A text, with its control characters escaped if it has one below 32.
-pub(crate) fn in_line(alloc: Global, text: String) -> Result<String, AllocError>
+/// A text, with its control characters escaped.
+pub fn in_line(alloc: Global, text: String) -> Result<String, AllocError>
     ensures { IfOk result (λ line. string_bytes line ≡ in_line (string_bytes text)) }
 {
-    if has_no_control(text.as_bytes()) {
-        Ok(text)
-    } else {
-        printable(alloc, text.as_str())
-    }
+    printable(alloc, text.as_str())
 }
 
 /// What there is to say something of: a value that is not allowed, or a key that no setting has.

@@ -21,7 +21,7 @@ pub(crate) fn syntax_words(
     let (words, at_key) = match error.message() {
         "duplicate key" => ("duplicate key", text),
         "cannot extend a value with a dotted key" => ("cannot extend a value with the key", text),
-        "number out of range" => {
+        words if tells_large_number(words, text) => {
             let at_key = at_last_key(alloc, whole)?;
             ("number out of range for the key", at_key)
         }
@@ -38,6 +38,37 @@ pub(crate) fn syntax_words(
         Some(key) => format!(in alloc; "{words} `{}`", key.as_str()),
         None => String::from_str(alloc, error.message()),
     }
+}
+
+/// Whether the words say that a number is out of range. Of one in another base than ten `toml` says
+/// that it is no value.
+fn tells_large_number(words: &str, text: &str) -> bool {
+    words == "number out of range" || (tells_no_value(words, text) && is_prefixed_integer(text))
+}
+
+/// Whether a text begins with an integer behind `0x`, `0o` or `0b` that is a whole value.
+fn is_prefixed_integer(text: &str) -> bool {
+    let (digits, rest) = if let Some(digits) = text.strip_prefix("0x") {
+        (
+            digits,
+            digits.trim_start_matches(|c: char| c == '_' || c.is_ascii_hexdigit()),
+        )
+    } else if let Some(digits) = text.strip_prefix("0o") {
+        (
+            digits,
+            digits.trim_start_matches(|c| matches!(c, '0'..='7' | '_')),
+        )
+    } else if let Some(digits) = text.strip_prefix("0b") {
+        (
+            digits,
+            digits.trim_start_matches(|c| matches!(c, '0' | '1' | '_')),
+        )
+    } else {
+        return false;
+    };
+    let after = rest.trim_start_matches(|c| c == ' ' || c == '\t');
+    let is_end = |c: char| matches!(c, ',' | ']' | '}' | '#' | '\r' | '\n');
+    rest.len() < digits.len() && (after.is_empty() || after.starts_with(is_end))
 }
 
 /// Whether the words say that a value is none. `toml` takes a string without quotes for a number if

@@ -7,7 +7,7 @@ use Rattle.std.specs.declared.vec.IntoIter.{IntoIter}
 use Rattle.std.specs.Result.{IsErr, IsErrAnd, MatchResult}
 use Rattle.iox2_config.specs.declared.config.Config.{Config}
 use Rattle.service_drawing.specs.Descriptions.{StopsReading, IsOver, IsReason}
-use Rattle.service_drawing.specs.Streams.{IsRequestOf, IsRead, status_of, output_text, error_text, prefix_at, ReportsBadLine, Draws, Answers, Reported}
+use Rattle.service_drawing.specs.Streams.{IsRequestOf, IsRead, status_of, output_text, error_text, ReportsBadLine, Draws, Answers, Reported}
 use Rattle.service_drawing.specs.declared.streams.Request.{Request}
 use Rattle.service_drawing.specs.declared.fault.Fault.{Fault}
 use Rattle.service_drawing.specs.declared.fault.Fault.TheVariants.{BadLine, NoMemory}
@@ -49,7 +49,7 @@ draws_no_more base warnings rest bytes expected (BadLine report) over s
     (line, cause, number, because, is) = (
       line,
       cause,
-      prefix_at line expected.prefix.now,
+      expected.prefix.now,
       expected.form.now,
       record {
         base = base;

@@ -140,7 +140,7 @@ Draws bytes (Ok written) =
     × IsDescription base rest
 Draws bytes (Err (BadLine report)) =
     (line : ℕ) × (cause : Cause) × (prefix : List ℕ) × (form : List ℕ) × IsBadLine line cause bytes
-    × (string_bytes report ≡ bad_line_text line cause prefix form)
+    × (string_bytes report ≡ bad_line_text line cause (prefix_at line prefix) form)
 Draws bytes (Err fault) = IsNotOver bytes fault
 
 -- what is answered: the bytes that the reader gives, if they are known, are drawn, or the text

@@ -28,14 +28,14 @@ pub items_end : {A B : Type 0} (f : A → B) (out before : List B) (xs first ys 
     → out ≡ before ++ map f ys
 items_end f out before xs first ys same none all = grind (arith, append-nil)
 
--- one text behind another, of three and of five
+-- one text behind another, of three and of six
 pub three : (old a b c first second new : List ℕ) → first ≡ old ++ a → second ≡ first ++ b
     → new ≡ second ++ c → new ≡ old ++ (a ++ (b ++ c))
 three old a b c first second new e f g = grind (arith, append_assoc)
 
-pub five : (a b c d e n0 n1 n2 n3 n4 : List ℕ) → n0 ≡ a → n1 ≡ n0 ++ b → n2 ≡ n1 ++ c
-    → n3 ≡ n2 ++ d → n4 ≡ n3 ++ e → n4 ≡ a ++ (b ++ (c ++ (d ++ e)))
-five a b c d e n0 n1 n2 n3 n4 p q r s t = grind (arith, three, append_assoc)
+pub six : (a b c d e f n0 n1 n2 n3 n4 n5 : List ℕ) → n0 ≡ a → n1 ≡ n0 ++ b → n2 ≡ n1 ++ c
+    → n3 ≡ n2 ++ d → n4 ≡ n3 ++ e → n5 ≡ n4 ++ f → n5 ≡ a ++ (b ++ (c ++ (d ++ (e ++ f))))
+six a b c d e f n0 n1 n2 n3 n4 n5 p q r s t u = grind (arith, three, append_assoc)
 
 -- one key more is written
 pub property_next : (s : Section) (rows : List Row) (i : ℕ) (d : Row) (is_first : Bool)

@@ -8,7 +8,7 @@ use Rattle.settings_check.specs.declared.found.FileError.{FileError}
 use Rattle.settings_check.specs.declared.found.FileError.TheVariants.{NotFound, PermissionDenied, IsADirectory, Other}
 use Rattle.iox2_config.specs.declared.config.Config.{Config}
 use Rattle.config_report.specs.Findings.{Checks, IsToml}
-use Rattle.config_report.specs.Notes.{Note, finding_view}
+use Rattle.config_report.specs.Notes.{Note, finding_view, note}
 use Rattle.config_report.specs.declared.finding.Finding.{Finding}
 use Rattle.config_report.specs.declared.finding.Findings.{Findings}
 use Rattle.config_report.specs.declared.finding.Severity.{Severity}
@@ -192,18 +192,14 @@ elsewhere_text (Some p) file =
     codes " at " ++ (file ++ (codes ":" ++ (decimal p.line ++ (codes ":" ++ decimal p.column))))
 elsewhere_text None file = codes " by default in " ++ file
 
--- what is said of a setting of one file that differs from that of the other
+-- what is said of a setting of one file that differs from that of the other, in one line
 abbrev pub said_beside : Section → List ℕ → FileSetting → FileSetting → Said
 said_beside s key one other = (
   one.file,
-  record {
-    position = one.position;
-    severity = difference_severity s;
-    key = Some (prefix_of s ++ key);
-    message = codes "is " ++ (value_text one.value
-        ++ (codes " here and " ++ (value_text other.value
-        ++ (elsewhere_text other.position other.file ++ sharing_text s))));
-  },
+  note one.position (difference_severity s) (Some (prefix_of s ++ key))
+      (codes "is " ++ (value_text one.value
+      ++ (codes " here and " ++ (value_text other.value
+      ++ (elsewhere_text other.position other.file ++ sharing_text s))))),
 )
 
 -- what is said of a setting that differs: of the first file, unless the second alone writes its key

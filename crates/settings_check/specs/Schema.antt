@@ -73,10 +73,21 @@ definition_of s rows =
 abbrev pub IsDefinition : Section → List ℕ → Type 0
 IsDefinition s text = (rows : List Row) × IsTable s rows × (text ≡ definition_of s rows)
 
--- the whole: the top of the file, and the other tables
+-- a duration: both numbers must be there, and no other key
+abbrev pub duration_definition : List ℕ
+duration_definition =
+    codes "  \"duration\": {\n"
+    ++ (codes "  \"type\": \"object\", \"additionalProperties\": false, "
+    ++ (codes "\"required\": [\"secs\", \"nanos\"],\n  \"properties\": {\n"
+    ++ (codes "    \"secs\": {\"type\": \"integer\", \"minimum\": 0, "
+    ++ (codes "\"maximum\": 9223372036854775807},\n"
+    ++ (codes "    \"nanos\": {\"type\": \"integer\", \"minimum\": 0, "
+    ++ codes "\"maximum\": 4294967295}\n  }}\n")))))
+
+-- the whole: the top of the file, the other tables, and a duration
 abbrev pub IsSchema : List ℕ → Type 0
 IsSchema text =
     (rows : List Row) × (others : List ℕ)
     × IsTable section.Root rows × InTurn IsDefinition (drop 1 sections) others
     × (text ≡ HEAD.now ++ (object_schema section.Root rows
-    ++ (DEFINITIONS.now ++ (others ++ TAIL.now))))
+    ++ (DEFINITIONS.now ++ (others ++ (duration_definition ++ TAIL.now)))))

@@ -85,8 +85,8 @@ const VERSION: &str = "iox2-check 0.1.0 (iceoryx2 0.9.3)\n";
 
 /// What is said of bad arguments.
 const BAD_ARGUMENTS: &str =
-    "bad arguments: expected FILE.., --show FILE, --compare FILE FILE, --default, --schema, --help \
-     or --version; for files also --strict, --format text or --format json\n";
+    "bad arguments: expected FILE.., --show FILE, --compare FILE FILE, --default, --schema, -h, \
+     --help or --version; for files also --strict, --format text or --format json\n";
 
 /// The status: whether a file cannot be read, or there is an error.
 fn status_of(strict: bool, found: &Found<'_>) -> Status

@@ -16,7 +16,7 @@ ghost use Rattle.settings_check.specs.declared.found.FileError.{FileError};
 ghost use Rattle.settings_check.specs.Words.{texts_of};
 
 use config_report::{
-    Finding, Position, Severity, ValuePair, check_file, is_same, pair_at, written_at,
+    Finding, Position, Severity, ValuePair, check_file, in_line, is_same, pair_at, written_at,
 };
 use iox2_config::config::Config;
 use iox2_config_file::{Section, SettingValue, rows};
@@ -308,7 +308,7 @@ fn setting_in<'a, 'b>(
     })
 }
 
-/// What is said of a setting of one file that differs from that of the other.
+/// What is said of a setting of one file that differs from that of the other, in one line.
 fn report_beside<'a>(
     alloc: Global,
     section: Section,
@@ -331,8 +331,8 @@ fn report_beside<'a>(
         finding: Finding {
             position: one.position,
             severity: severity_of(section),
-            key: Some(key),
-            message,
+            key: Some(in_line(alloc, key)?),
+            message: in_line(alloc, message)?,
         },
     })
 }

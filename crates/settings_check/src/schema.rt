@@ -20,14 +20,17 @@ const DEFINITIONS: &str = ",
   \"definitions\": {
 ";
 
-/// What stands behind all tables.
-const TAIL: &str = "  \"duration\": {
+/// A duration, as the definitions see it.
+const DURATION: &str = "  \"duration\": {
   \"type\": \"object\", \"additionalProperties\": false, \"required\": [\"secs\", \"nanos\"],
   \"properties\": {
     \"secs\": {\"type\": \"integer\", \"minimum\": 0, \"maximum\": 9223372036854775807},
     \"nanos\": {\"type\": \"integer\", \"minimum\": 0, \"maximum\": 4294967295}
   }}
-  }
+";
+
+/// What stands behind all definitions.
+const TAIL: &str = "  }
 }
 ";
 
@@ -153,6 +156,7 @@ pub(crate) fn schema(alloc: Global) -> Result<String, AllocError>
     write_object(&mut out, Section::Root)?;
     out.push_str(DEFINITIONS)?;
     write_definitions(&mut out, &SECTIONS[1..])?;
+    out.push_str(DURATION)?;
     out.push_str(TAIL)?;
     Ok(out)
 }

@@ -139,6 +139,53 @@ fn long_names_are_reported(rt: HostRuntime) -> Result<(), Fail> {
     Ok(())
 }
 
+/// What is said of a directory of so many bytes, of services or of nodes, below a root path of 201
+/// bytes.
+fn said_of_directory(
+    alloc: Global,
+    table: &str,
+    length: usize,
+) -> Result<(u8, Vec<u8>), AllocError> {
+    let mut text = String::from_str(alloc, "[global]\nroot-path = '/")?;
+    for _ in 0..200 {
+        text.push('r')?;
+    }
+    write!(text, "'\n{table}.directory = '")?;
+    for _ in 0..length {
+        text.push('d')?;
+    }
+    text.push_str("'\n")?;
+    said(alloc, text.as_bytes())
+}
+
+/// Directories whose paths have 255 bytes can be made, and those of 256 cannot.
+#[test]
+fn long_paths_are_reported(rt: HostRuntime) -> Result<(), Fail> {
+    for (table, begin) in [
+        (
+            "service",
+            b"f:3:1: warning: global.service.directory: is \"d".as_slice(),
+        ),
+        (
+            "node",
+            b"f:3:1: warning: global.node.directory: is \"d".as_slice(),
+        ),
+    ] {
+        let (status, output) = said_of_directory(rt.alloc(), table, 53)?;
+        assert_eq!(rt;
+            (status, output.as_slice()),
+            (0, b"0 errors, 0 warnings\n".as_slice())
+        );
+        let (status, output) = said_of_directory(rt.alloc(), table, 54)?;
+        let end =
+            b"r\": joined they have more than 255 bytes, so there is no such directory\n0 errors, 1 \
+            warning\n";
+        let ends = output.starts_with(begin) && output.ends_with(end.as_slice());
+        assert_eq!(rt; (status, ends), (1, true));
+    }
+    Ok(())
+}
+
 /// What is said of two files with one contradiction.
 fn said_of_two(alloc: Global, words: &[&str]) -> Result<(u8, Vec<u8>), AllocError> {
     let files = Known(&[

@@ -7,7 +7,7 @@ use std::process::Abort;
 use std::test::Fail;
 
 /// A file, and what is reported of it.
-const REPORTED: [(&[u8], &str); 37] = [
+const REPORTED: [(&[u8], &str); 45] = [
     (
         b"# two faults\n[global]\nprefix = 1\n[defaults.event]\n\t\"max-nodes\" = -1\n",
         "3:1: error: global.prefix: is an integer, and a string with the name of a file is wanted\n\
@@ -77,6 +77,41 @@ const REPORTED: [(&[u8], &str); 37] = [
     (
         b"[global]\ncreation-timeout = { nanos = 0, secs = -9223372036854775809 }\n",
         "2:40: error: number out of range for the key `secs`\n",
+    ),
+    (
+        b"[defaults.event]\nevent-id-max-value = 0xFFFFFFFFFFFFFFFF\nmax-nodes = 1\n",
+        "2:22: error: number out of range for the key `event-id-max-value`\n",
+    ),
+    (
+        b"a = [ { b = 1, c.d = 0o1_000_000_000_000_000_000_000 }, 2 ]\n",
+        "1:22: error: number out of range for the key `c.d`\n",
+    ),
+    (
+        b"x = [\n0x8000_0000_0000_0000] # 1\n",
+        "2:1: error: number out of range for the key `x`\n",
+    ),
+    (
+        b"x = 0b1000000000000000000000000000000000000000000000000000000000000000",
+        "1:5: error: number out of range for the key `x`\n",
+    ),
+    (
+        b"x = 0x7fff_ffff_ffff_ffff\n",
+        "1:1: warning: x: this table has no such key\n",
+    ),
+    (
+        b"x = 0x10 3\n",
+        "1:5: error: invalid value, expected a string in quotes, a number, `true`, `false`, a \
+         date-time, an array or an inline table\n",
+    ),
+    (
+        b"x = 0x\n",
+        "1:5: error: invalid value, expected a string in quotes, a number, `true`, `false`, a \
+         date-time, an array or an inline table\n",
+    ),
+    (
+        b"x = 0b10000000000000000000000000000000000000000000000000000000000000002\n",
+        "1:5: error: invalid value, expected a string in quotes, a number, `true`, `false`, a \
+         date-time, an array or an inline table\n",
     ),
     (b"a = 1\na = 2\n", "2:1: error: duplicate key `a`\n"),
     (

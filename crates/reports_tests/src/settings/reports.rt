@@ -26,6 +26,7 @@ const FILES: Known<'_> = Known(&[
         b"global.prefix = 'one_'\ndefaults.event.max-nodes = 5\n",
     ),
     ("inline", b"global = { prefix = '\"' }\n"),
+    ("lines", b"global.prefix = \"a\\nb\"\n"),
     (
         "other",
         b"[global.node]\nmonitor-suffix = '.seen'\n[global]\nprefix = \"\\u0022\"\n",
@@ -35,7 +36,7 @@ const FILES: Known<'_> = Known(&[
 /// Words, the status, the output and the errors.
 type Run<'a> = (&'a [&'a str], u8, &'a str, &'a str);
 
-const RUNS: [Run<'_>; 13] = [
+const RUNS: [Run<'_>; 14] = [
     (
         &["bad.toml"],
         1,
@@ -56,7 +57,7 @@ const RUNS: [Run<'_>; 13] = [
          \"message\":\"this table has no such key, defaults.event.max-nodes may be meant\",\
          \"severity\":\"warning\"}\n\
          {\"column\":1,\"file\":\"bad.toml\",\
-         \"key\":\"defaults.event.\\\"\\\\u001B[31m\u{9b}1m\\\"\",\"line\":5,\
+         \"key\":\"defaults.event.\\\"\\\\u001B[31m\\\\u{9b}1m\\\"\",\"line\":5,\
          \"message\":\"this table has no such key\",\"severity\":\"warning\"}\n",
         "",
     ),
@@ -111,6 +112,15 @@ const RUNS: [Run<'_>; 13] = [
         "other:2:1: error: global.node.monitor-suffix: is \".seen\" here and \".node_monitor\" by \
          default in inline, and must be the same in all processes of one system\n\
          1 error, 0 warnings\n",
+        "",
+    ),
+    (
+        &["--compare", "--format", "json", "lines", "inline"],
+        1,
+        "{\"column\":1,\"file\":\"lines\",\"key\":\"global.prefix\",\"line\":1,\
+         \"message\":\"is \\\"\\\"\\\"\\\\u{a}a\\\\u{a}b\\\"\\\"\\\" here and '\\\"' at \
+         inline:1:1, and must be the same in all processes of one system\",\
+         \"severity\":\"error\"}\n",
         "",
     ),
     (

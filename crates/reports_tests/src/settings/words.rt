@@ -64,7 +64,8 @@ fn each_list_of_words_has_its_status(rt: HostRuntime) -> Result<(), Fail> {
 fn bad_words_are_reported(rt: HostRuntime) -> Result<(), Fail> {
     let (_, _, errors) = run(rt.alloc(), false, &["--unknown"], FILES, b"")?;
     let expected = b"bad arguments: expected FILE.., --show FILE, --compare FILE FILE, --default, \
-        --schema, --help or --version; for files also --strict, --format text or --format json\n";
+        --schema, -h, --help or --version; for files also --strict, --format text or --format \
+        json\n";
     assert_eq!(rt; errors.as_slice(), expected.as_slice());
     Ok(())
 }

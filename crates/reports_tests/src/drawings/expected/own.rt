@@ -38,9 +38,9 @@ required by an opener
 ",
 );
 
-/// An empty file of settings, one with CRLF, one with a key that no setting has, and one with a
-/// contradiction.
-pub(crate) const FILES: [(&str, &str); 4] = [
+/// An empty file of settings, one with CRLF, one with a key that no setting has, one with a
+/// contradiction, and one with a key that is a command to a terminal.
+pub(crate) const FILES: [(&str, &str); 5] = [
     (
         "config\nend\nevent My/Event\nset max_listeners 3\nset max_nodes 5\n",
         "",
@@ -56,6 +56,10 @@ pub(crate) const FILES: [(&str, &str); 4] = [
     (
         "config\n[defaults.event]\nmax-nodes = 5\nnotifier-created-event = 300\nend\nevent A\n",
         "4:1: warning: defaults.event.notifier-created-event: is 300, and defaults.event.event-id-max-value is 255: an event above the greatest one is never sent\n",
+    ),
+    (
+        "config\n[defaults.event]\nmax-nodes = 5\n\"a\u{9b}31mX\" = 1\nend\nevent A\nset max_listeners 3\n",
+        "4:1: warning: defaults.event.\"a\\u{9b}31mX\": this table has no such key\n",
     ),
 ];
 

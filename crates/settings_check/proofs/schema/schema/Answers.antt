@@ -1,4 +1,4 @@
-use Rattle.settings_check.proofs.Lists.{five}
+use Rattle.settings_check.proofs.Lists.{six}
 use Rattle.settings_check.proofs.schema.schema.Goals as goal
 
 pub returns : goal.returns
@@ -9,6 +9,6 @@ returns c =
       others,
       is,
       are,
-      five _ _ _ _ _ _ _ _ _ _ c.in_ok-out.ensures.ok object c.in_ok-push_str.ensures.bytes now
-          c.in_ok-push_str-2.ensures.bytes,
+      six _ _ _ _ _ _ _ _ _ _ _ _ c.in_ok-out.ensures.ok object c.in_ok-push_str.ensures.bytes
+          now c.in_ok-push_str-2.ensures.bytes c.in_ok-push_str-3.ensures.bytes,
     )
