@@ -1,5 +1,5 @@
 //! What is found in a file of settings, or why bytes are none, and what is reported of it.
-ghost use Rattle.std.specs.Prelude.{◌≡◌, ◌++◌, ◌≤◌, ℕ, List, IfErr, IfOk, IsSome, OnOk, Some, None};
+ghost use Rattle.std.specs.Prelude.{◌≡◌, ◌++◌, ◌≤◌, ℕ, List, IfErr, IfOk, OnOk, Some, None};
 ghost use Rattle.std.specs.Prelude.{length, map, string_bytes};
 ghost use Rattle.iox2_config_file.specs.Answers.{ReadsAll};
 ghost use Rattle.config_report.specs.Contradictions.{contradiction_note, contradiction_view};
@@ -16,16 +16,14 @@ ghost use Rattle.toml_positions.specs.Position.{position_after};
 
 use crate::contradiction::{Contradiction, contradiction_finding};
 use crate::contradictions::contradictions_in;
-use crate::finding::{
-    Finding, Findings, Severity, Subject, in_line, key_positions, position_at, sort_key,
-};
+use crate::finding::{Finding, Findings, Severity, Subject, in_line, key_position, sort_key};
 use crate::syntax::syntax_words;
 use crate::text::write_text;
 use iox2_config::config::Config;
 use iox2_config_file::{ConfigFileError, FileContents, read_config, too_deep, write_config};
 use std::alloc::{AllocError, Global};
 use std::str;
-use toml_positions::position_after;
+use toml_positions::{Positions, position_after};
 
 /// All that is found in a file of settings, in the order of the file: that it is no UTF-8, that its
 /// tables and arrays are more than 32 deep in one another, or that it is no TOML; or else each
@@ -53,16 +51,21 @@ pub fn check_file(alloc: Global, bytes: &[u8]) -> Result<Findings, AllocError>
 
 /// What is said of all that a text says, in the order of the file.
 fn list_of(alloc: Global, text: &str, contents: &FileContents) -> Result<Vec<Finding>, AllocError>
-    ensures { IfOk result (λ list. IsSome (parse_document text.now)
-        → Lists (map (note_in text.now) (topics_of contents.now)
+    ensures { IfOk result (λ list. Lists (map (note_in text.now) (topics_of contents.now)
         ++ map (contradiction_note text.now) (contradictions_in contents.now.config))
         list.items) }
 {
+    let mut positions = Positions::of(text);
     let mut list = Vec::new(alloc);
-    add_findings(&mut list, alloc, text, contents.faults.as_slice())?;
-    add_findings(&mut list, alloc, text, contents.unknown.as_slice())?;
+    add_findings(&mut list, alloc, &mut positions, contents.faults.as_slice())?;
+    add_findings(
+        &mut list,
+        alloc,
+        &mut positions,
+        contents.unknown.as_slice(),
+    )?;
     let contradictions = contradictions_in(alloc, contents.config.as_ref())?;
-    add_contradictions(&mut list, alloc, text, contradictions.as_slice())?;
+    add_contradictions(&mut list, alloc, &mut positions, contradictions.as_slice())?;
     list.sort_by_key(|finding| sort_key(finding))?;
     Ok(list)
 }
@@ -71,19 +74,16 @@ fn list_of(alloc: Global, text: &str, contents: &FileContents) -> Result<Vec<Fin
 fn add_findings<T: Subject>(
     list: &mut Vec<Finding>,
     alloc: Global,
-    text: &str,
+    positions: &mut Positions<'_>,
     subjects: &[T],
 ) -> Result<(), AllocError>
-    ensures { OnOk result (IsSome (parse_document text.now)
-        → map finding_view list.new.items
-        ≡ map finding_view list.old.items ++ map (note_in text.now) (map T.topic subjects.now)) }
+    ensures text { positions.new ≡ positions.old }
+    ensures added { OnOk result (map finding_view list.new.items ≡ map finding_view list.old.items
+        ++ map (note_in positions.old) (map T.topic subjects.now)) }
 {
-    let positions = key_positions(alloc, text, subjects)?;
-    let mut i = 0;
     for subject in subjects {
-        let position = position_at(positions.as_slice(), i);
+        let position = key_position(alloc, positions, subject)?;
         list.push(subject.finding(alloc, position)?)?;
-        i += 1;
     }
     Ok(())
 }
@@ -92,15 +92,14 @@ fn add_findings<T: Subject>(
 fn add_contradictions(
     list: &mut Vec<Finding>,
     alloc: Global,
-    text: &str,
+    positions: &mut Positions<'_>,
     contradictions: &[Contradiction<'_>],
 ) -> Result<(), AllocError>
-    ensures { OnOk result (IsSome (parse_document text.now)
-        → map finding_view list.new.items ≡ map finding_view list.old.items
-        ++ map (contradiction_note text.now) (map contradiction_view contradictions.now)) }
+    ensures { OnOk result (map finding_view list.new.items ≡ map finding_view list.old.items
+        ++ map (contradiction_note positions.old) (map contradiction_view contradictions.now)) }
 {
     for contradiction in contradictions {
-        list.push(contradiction_finding(alloc, text, contradiction)?)?;
+        list.push(contradiction_finding(alloc, positions, contradiction)?)?;
     }
     Ok(())
 }

@@ -1,16 +1,15 @@
 //! Settings that contradict each other, and what is said of them.
-ghost use Rattle.std.specs.Prelude.{◌≡◌, Some, IfOk, IsSome};
+ghost use Rattle.std.specs.Prelude.{◌≡◌, Some, IfOk};
 ghost use Rattle.config_report.specs.Contradictions.{beside_text, contradiction_note};
 ghost use Rattle.config_report.specs.Contradictions.{contradiction_view, effect_text, is_later};
 ghost use Rattle.config_report.specs.Contradictions.{other_view, side_note, side_view};
 ghost use Rattle.config_report.specs.Notes.{finding_view};
-ghost use Rattle.toml.specs.Parse.{parse_document};
 
-use crate::finding::{Finding, Severity, finding_of, key_path, position_of};
+use crate::finding::{Finding, Severity, finding_of, key_path, position_for};
 use iox2_config_file::{Section, SettingValue};
 use std::alloc::{AllocError, Global};
 use std::fmt;
-use toml_positions::Position;
+use toml_positions::{Position, Positions};
 
 /// What settings that contradict each other lead to.
 #[derive(Clone, Copy)]
@@ -119,17 +118,18 @@ fn is_later(first: Option<Position>, second: Option<Position>) -> bool
 /// What is said of a contradiction in a file: of the one of its settings that stands later.
 pub(crate) fn contradiction_finding(
     alloc: Global,
-    text: &str,
+    positions: &mut Positions<'_>,
     found: &Contradiction<'_>,
 ) -> Result<Finding, AllocError>
-    ensures { IfOk result (λ finding. IsSome (parse_document text.now)
-        → finding_view finding ≡ contradiction_note text.now (contradiction_view found.now)) }
+    ensures text { positions.new ≡ positions.old }
+    ensures said { IfOk result (λ finding. finding_view finding
+        ≡ contradiction_note positions.old (contradiction_view found.now)) }
 {
-    let first = position_of(alloc, text, key_path(found.one.section, found.one.key))?;
+    let first = position_for(alloc, positions, key_path(found.one.section, found.one.key))?;
     let Some(other) = found.other else {
         return side_finding(alloc, first, found);
     };
-    let second = position_of(alloc, text, key_path(other.section, other.key))?;
+    let second = position_for(alloc, positions, key_path(other.section, other.key))?;
     if is_later(first, second) {
         let turned = Contradiction {
             one: other,

@@ -1,23 +1,22 @@
 //! What is found in a file of settings, in texts that stand in one line, and where its keys stand.
-ghost use Rattle.std.specs.Prelude.{◌≡◌, ◌++◌, ◌∷◌, [], IfOk, IsSome, None, Some, map};
-ghost use Rattle.std.specs.Prelude.{option_map, slice_index_or, string_bytes};
+ghost use Rattle.std.specs.Prelude.{◌≡◌, ◌++◌, ◌∷◌, [], IfOk, Some, map};
+ghost use Rattle.std.specs.Prelude.{option_map, string_bytes};
 ghost use Rattle.iox2_config_file.specs.Settings.{table_path};
 ghost use Rattle.iox2_config_file.specs.Unknown.{proposal_view};
-ghost use Rattle.config_report.specs.Findings.{sort_key_of, IsToml};
+ghost use Rattle.config_report.specs.Findings.{sort_key_of};
 ghost use Rattle.config_report.specs.Notes.{at_text, fault_topic, finding_view};
 ghost use Rattle.config_report.specs.Notes.{in_line, meant_text, note, note_text, position_for};
 ghost use Rattle.config_report.specs.Notes.{severity_text, topic_note};
 ghost use Rattle.config_report.specs.Notes.{topic_path, topic_position, unknown_topic};
-ghost use Rattle.toml.specs.Parse.{parse_document};
-ghost use Rattle.toml_positions.specs.Written.{path_view, position_in};
+ghost use Rattle.toml_positions.specs.Written.{path_view};
 ghost use Rattle.toml_writer.specs.Text.{key_text};
 
 use crate::printable::printable;
 use iox2_config::config::Config;
 use iox2_config_file::{Likeness, Proposal, Section, SettingFault, UnknownKey};
 use std::alloc::{AllocError, Global};
-use std::{fmt, str};
-use toml_positions::{KeyPath, Position, positions_of};
+use std::fmt;
+use toml_positions::{KeyPath, Position, Positions};
 use toml_writer::write_key;
 
 /// How much a finding weighs.
@@ -197,7 +196,7 @@ fn table_path(section: Section) -> &'static [&'static str]
 }
 
 /// The path of a key of a table.
-pub(crate) fn key_path(section: Section, key: &str) -> KeyPath<'_>
+pub fn key_path(section: Section, key: &str) -> KeyPath<'_>
     ensures { path_view result ≡ table_path section ++ key.now ∷ [] }
 {
     KeyPath {
@@ -206,85 +205,34 @@ pub(crate) fn key_path(section: Section, key: &str) -> KeyPath<'_>
     }
 }
 
-/// The positions of some paths, or none of them where the file is too large. Where there is no path
-/// the file is not gone over.
-#[tactic(auto, using(crate::proofs::Lines::map_same))]
-fn positions_for(
-    alloc: Global,
-    text: &str,
-    paths: &[KeyPath<'_>],
-) -> Result<Vec<Option<Position>>, AllocError>
-    ensures { IfOk result (λ found. IsSome (parse_document text.now)
-        → found.items ≡ map (position_for text.now) (map path_view paths.now)) }
-{
-    if paths.is_empty() {
-        return Ok(Vec::new(alloc));
-    }
-    if text.len() <= LARGEST_SEARCHED {
-        return positions_of(alloc, text, paths);
-    }
-    let mut found = Vec::new(alloc);
-    found.resize(paths.len(), None)?;
-    Ok(found)
-}
-
 /// The position of a path, or none where the file is too large.
-pub(crate) fn position_of(
+pub(crate) fn position_for(
     alloc: Global,
-    text: &str,
+    positions: &mut Positions<'_>,
     path: KeyPath<'_>,
 ) -> Result<Option<Position>, AllocError>
-    ensures { IfOk result (λ found. IsSome (parse_document text.now)
-        → found ≡ position_for text.now (path_view path.entry)) }
+    ensures text { positions.new ≡ positions.old }
+    ensures position { IfOk result (λ found.
+        found ≡ position_for positions.old (path_view path.entry)) }
 {
-    let found = positions_for(alloc, text, &[path])?;
-    Ok(position_at(found.as_slice(), 0))
+    if positions.text().len() <= LARGEST_SEARCHED {
+        positions.at(alloc, &path)
+    } else {
+        Ok(None)
+    }
 }
 
-/// Where the text of a file of settings writes a key of a table first, however large the file is.
-/// Nothing is said of a text that is no TOML.
-pub fn written_at(
+/// The position of the key of a subject in a text. A text past 128 KiB is not searched.
+pub fn key_position<T: Subject>(
     alloc: Global,
-    bytes: &[u8],
-    section: Section,
-    key: &str,
+    positions: &mut Positions<'_>,
+    subject: &T,
 ) -> Result<Option<Position>, AllocError>
-    ensures { IfOk result (λ found. IsToml bytes.now
-        → found ≡ position_in bytes.now (table_path section ++ key.now ∷ [])) }
+    ensures text { positions.new ≡ positions.old }
+    ensures position { IfOk result (λ found.
+        found ≡ topic_position positions.old (T.topic subject.now)) }
 {
-    let Ok(text) = str::from_utf8(bytes) else {
-        return Ok(None);
-    };
-    let positions = positions_of(alloc, text, &[key_path(section, key)])?;
-    Ok(position_at(positions.as_slice(), 0))
-}
-
-/// The positions of the keys of some subjects in a text that is TOML. One past 128 KiB is not
-/// searched.
-#[tactic(auto, using(crate::proofs::Lines::all_mapped, crate::proofs::Lines::map_twice))]
-pub fn key_positions<T: Subject>(
-    alloc: Global,
-    text: &str,
-    subjects: &[T],
-) -> Result<Vec<Option<Position>>, AllocError>
-    ensures { IfOk result (λ found. IsSome (parse_document text.now)
-        → found.items ≡ map (topic_position text.now) (map T.topic subjects.now)) }
-{
-    let mut paths = Vec::new(alloc);
-    for subject in subjects {
-        paths.push(subject.path())?;
-    }
-    positions_for(alloc, text, paths.as_slice())
-}
-
-/// The position of this index, if it is known.
-pub fn position_at(positions: &[Option<Position>], index: usize) -> Option<Position>
-    ensures { result ≡ slice_index_or positions.now index None }
-{
-    match positions.get(index) {
-        Some(position) => *position,
-        None => None,
-    }
+    position_for(alloc, positions, subject.path())
 }
 
 /// A key, as TOML writes it.

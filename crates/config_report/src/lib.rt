@@ -17,9 +17,7 @@ mod text;
 pub use check::{
     FileConfig, ReportError, Unread, check_file, default_file, parse_file, read_file, settings_text,
 };
-pub use finding::{
-    Finding, Findings, Severity, Subject, in_line, key_positions, position_at, written_at,
-};
+pub use finding::{Finding, Findings, Severity, Subject, in_line, key_path, key_position};
 pub use printable::{write_printable, write_printable_line};
 pub use text::{ValuePair, is_same, pair_at, requests, responses, samples};
-pub use toml_positions::Position;
+pub use toml_positions::{Position, Positions};

@@ -10,7 +10,7 @@ ghost use Rattle.toml.specs.Parse.{parse_document};
 
 use crate::config::{PlainConfig, config_of};
 use crate::fault::{PlainFault, plain_fault, plain_unread, sort_key_at, unread_status};
-use config_report::{key_positions, parse_file, position_at};
+use config_report::{Positions, key_position, parse_file};
 use iox2_config_file::{FileContents, SettingFault};
 use iox2sd_common::answers::{CountAnswer, count, fit_status, put};
 use iox2sd_common::status::Status;
@@ -54,6 +54,7 @@ impl ConfigAnswer {
 }
 
 /// Some faults of a text as plain values, each at its position.
+#[tactic(auto, using(config_report::proofs::Lines::all_mapped))]
 fn plain_faults(
     alloc: Global,
     text: &str,
@@ -63,13 +64,11 @@ fn plain_faults(
     ensures { IfOk result (λ plain.
         plain.items ≡ map (c_fault text.now) (map fault_view faults.now)) }
 {
-    let positions = key_positions(alloc, text, faults)?;
+    let mut positions = Positions::of(text);
     let mut plain = Vec::new(alloc);
-    let mut i = 0;
     for fault in faults {
-        let position = position_at(positions.as_slice(), i);
+        let position = key_position(alloc, &mut positions, fault)?;
         plain.push(plain_fault(alloc, fault, position)?)?;
-        i += 1;
     }
     Ok(plain)
 }

@@ -11,7 +11,7 @@ ghost use Rattle.toml.specs.Parse.{parse_document};
 use crate::fault::{
     column_of, cut, key_of, key_path, line_of, section_number, sort_key_at, unread_status,
 };
-use config_report::{Finding, Subject, key_positions, parse_file, position_at};
+use config_report::{Finding, Positions, Subject, key_position, parse_file};
 use iox2_config_file::{Likeness, Proposal, UnknownKey};
 use iox2sd_common::answers::put;
 use iox2sd_common::status::Status;
@@ -146,13 +146,11 @@ fn named_keys(alloc: Global, text: &str, keys: &[UnknownKey]) -> Result<Vec<Name
     ensures { IfOk result (λ named.
         map named_view named.items ≡ map (c_unknown text.now) (map unknown_view keys.now)) }
 {
-    let positions = key_positions(alloc, text, keys)?;
+    let mut positions = Positions::of(text);
     let mut named = Vec::new(alloc);
-    let mut i = 0;
     for key in keys {
-        let position = position_at(positions.as_slice(), i);
+        let position = key_position(alloc, &mut positions, key)?;
         named.push(named_key(alloc, key, position)?)?;
-        i += 1;
     }
     Ok(named)
 }

@@ -22,6 +22,7 @@ use Rattle.iox2_config_file.specs.declared.section.Section.{Section}
 use Rattle.iox2_config_file.specs.declared.section.Section.TheVariants as section
 use Rattle.settings_check.specs.declared.found.Found.{Found}
 use Rattle.settings_check.specs.declared.found.Report.{Report}
+use Rattle.settings_check.specs.declared.found.Compared.{Compared}
 use Rattle.settings_check.specs.declared.found.FileSetting.{FileSetting as HeldSetting}
 use Rattle.settings_check.specs.declared.found.Pair.{Pair}
 use Rattle.settings_check.specs.declared.found.Unread.{Unread}
@@ -211,9 +212,20 @@ said_where _ _ s key first second = said_beside s key first second
 abbrev pub difference : Section → List ℕ → FileSetting → FileSetting → Said
 difference s key first second = said_where first.position second.position s key first second
 
+-- a file that is compared
+abbrev pub compared_view : Compared → ValidFile
+compared_view c = valid_view c.file.now
+
+-- the positions are those of its text
+abbrev pub IsCompared : Compared → Type 0
+IsCompared c = c.positions ≡ (compared_view c).text
+
 -- two files that are compared
 abbrev pub pair_view : Pair → ValidFile × ValidFile
-pair_view p = (valid_view p.first.now, valid_view p.second.now)
+pair_view p = (compared_view p.first, compared_view p.second)
+
+abbrev pub AreCompared : Pair → Type 0
+AreCompared p = IsCompared p.first × IsCompared p.second
 
 -- their texts are TOML
 abbrev pub AreParsed : ValidFile × ValidFile → Type 0

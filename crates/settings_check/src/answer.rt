@@ -13,7 +13,7 @@ ghost use Rattle.settings_check.specs.Answer.{RequestsInput};
 ghost use Rattle.settings_check.specs.Found.{found_view, valid_view};
 
 use crate::arguments::{Request, RequestError, Task, request_of};
-use crate::found::{Files, Found, Pair, ValidFile, add_differences, find_in};
+use crate::found::{Files, Found, ValidFile, add_differences, find_in};
 use crate::lines::{
     Omitted, Style, errors_in, style_of, warnings_in, write_end, write_lines, write_unread,
 };
@@ -170,8 +170,7 @@ fn add_compared(alloc: Global, found: &mut Found<'_>) -> Result<(), AllocError>
 {
     match found.valid.as_slice() {
         [first, second, ..] => {
-            let files = Pair { first, second };
-            add_differences(alloc, &mut found.reports, files, &SECTIONS)
+            add_differences(alloc, &mut found.reports, first, second, &SECTIONS)
         }
         _ => Ok(()),
     }

@@ -7,6 +7,7 @@ ghost use Rattle.iox2_config_file.specs.Write.{value_view};
 ghost use Rattle.settings_check.specs.Found.{given_bytes, cause_of, why_text, report_of};
 ghost use Rattle.settings_check.specs.Found.{reports_of};
 ghost use Rattle.settings_check.specs.Found.{found_view, AddsGiven, AddsFile, AreFound};
+ghost use Rattle.settings_check.specs.Found.{AreCompared, IsCompared, compared_view};
 ghost use Rattle.settings_check.specs.Found.{pair_view, valid_in, valid_view};
 ghost use Rattle.settings_check.specs.Found.{AreParsed, setting_in, setting_view};
 ghost use Rattle.settings_check.specs.Found.{difference, difference_severity};
@@ -16,7 +17,8 @@ ghost use Rattle.settings_check.specs.declared.found.FileError.{FileError};
 ghost use Rattle.settings_check.specs.Words.{texts_of};
 
 use config_report::{
-    Finding, Position, Severity, ValuePair, check_file, in_line, is_same, pair_at, written_at,
+    Finding, Position, Positions, Severity, ValuePair, check_file, in_line, is_same, key_path,
+    pair_at,
 };
 use iox2_config::config::Config;
 use iox2_config_file::{Section, SettingValue, rows};
@@ -24,7 +26,7 @@ use line_streams::read_all;
 use std::alloc::{AllocError, Global};
 use std::fs::File;
 use std::io::ErrorKind;
-use std::{fmt, fs};
+use std::{fmt, fs, str};
 
 /// Why a file cannot be read.
 #[derive(Clone, Copy, Debug, PartialEq, Eq)]
@@ -289,21 +291,44 @@ impl fmt::Display for Elsewhere<'_> {
     }
 }
 
+/// A file that is compared.
+#[derive(Drop)]
+struct Compared<'a, 'b> {
+    /// The file.
+    file: &'b ValidFile<'a>,
+    /// Where its keys stand.
+    positions: Positions<'b>,
+}
+
+/// A file that is to be compared.
+fn comparing<'a, 'b>(file: &'b ValidFile<'a>) -> Compared<'a, 'b>
+    requires { IsToml (valid_view file.now).text }
+    ensures file { result.file ≡ file.entry }
+    ensures text { IsCompared result }
+{
+    let text = str::from_utf8(&file.text).unwrap_or("");
+    Compared {
+        file,
+        positions: Positions::of(text),
+    }
+}
+
 /// A setting of this value as a file has it.
 fn setting_in<'a, 'b>(
     alloc: Global,
-    valid: &ValidFile<'a>,
+    compared: &mut Compared<'a, '_>,
     section: Section,
     key: &str,
     value: SettingValue<'b>,
 ) -> Result<FileSetting<'a, 'b>, AllocError>
-    requires { IsToml (valid_view valid.now).text }
-    ensures { IfOk result (λ setting. setting_view setting
-        ≡ setting_in (valid_view valid.now) section key.now (value_view value.entry)) }
+    requires { IsCompared compared.old }
+    ensures same { compared.new ≡ compared.old }
+    ensures setting { IfOk result (λ setting. setting_view setting
+        ≡ setting_in (compared_view compared.old) section key.now (value_view value.entry)) }
 {
     Ok(FileSetting {
-        file: valid.file,
-        position: written_at(alloc, &valid.text, section, key)?,
+        file: compared.file.file,
+        position: compared.positions.at(alloc, &key_path(section, key))?,
         value,
     })
 }
@@ -355,12 +380,12 @@ fn difference<'a>(
 }
 
 /// Two files that are compared.
-#[derive(Clone, Copy)]
-pub(crate) struct Pair<'a, 'b> {
+#[derive(Drop)]
+struct Pair<'a, 'b> {
     /// The first one.
-    pub(crate) first: &'b ValidFile<'a>,
+    first: Compared<'a, 'b>,
     /// The second one.
-    pub(crate) second: &'b ValidFile<'a>,
+    second: Compared<'a, 'b>,
 }
 
 /// Adds a setting if it differs.
@@ -368,20 +393,21 @@ pub(crate) struct Pair<'a, 'b> {
 fn add_setting<'a>(
     alloc: Global,
     reports: &mut Vec<Report<'a>>,
-    files: Pair<'a, '_>,
+    files: &mut Pair<'a, '_>,
     section: Section,
     pair: ValuePair<'_>,
 ) -> Result<(), AllocError>
-    requires { AreParsed (pair_view files) }
-    ensures { OnOk result (reports_of reports.new.items ≡ reports_of reports.old.items
-        ++ setting_differences (pair_view files.entry) section (value_pair pair.entry)) }
+    requires { AreCompared files.old }
+    ensures same { files.new ≡ files.old }
+    ensures added { OnOk result (reports_of reports.new.items ≡ reports_of reports.old.items
+        ++ setting_differences (pair_view files.old) section (value_pair pair.entry)) }
 {
     let ValuePair { key, value, other } = pair;
     if is_same(value, other) {
         return Ok(());
     }
-    let first = setting_in(alloc, files.first, section, key, value)?;
-    let second = setting_in(alloc, files.second, section, key, other)?;
+    let first = setting_in(alloc, &mut files.first, section, key, value)?;
+    let second = setting_in(alloc, &mut files.second, section, key, other)?;
     let report = difference(alloc, section, key, first, second)?;
     reports.push(report)?;
     Ok(())
@@ -392,16 +418,17 @@ fn add_setting<'a>(
 fn add_table<'a>(
     alloc: Global,
     reports: &mut Vec<Report<'a>>,
-    files: Pair<'a, '_>,
+    files: &mut Pair<'a, '_>,
     section: Section,
 ) -> Result<(), AllocError>
-    requires { AreParsed (pair_view files) }
-    ensures { OnOk result (reports_of reports.new.items
-        ≡ reports_of reports.old.items ++ table_differences (pair_view files.entry) section) }
+    requires { AreCompared files.old }
+    ensures same { files.new ≡ files.old }
+    ensures added { OnOk result (reports_of reports.new.items
+        ≡ reports_of reports.old.items ++ table_differences (pair_view files.old) section) }
 {
     let rows = rows(section);
-    let one = &files.first.config;
-    let other = &files.second.config;
+    let one = &files.first.file.config;
+    let other = &files.second.file.config;
     for index in 0..rows.len() {
         let Some(pair) = pair_at(one, other, section, rows, index) else {
             return Ok(());
@@ -415,15 +442,20 @@ fn add_table<'a>(
 pub(crate) fn add_differences<'a>(
     alloc: Global,
     reports: &mut Vec<Report<'a>>,
-    files: Pair<'a, '_>,
+    first: &ValidFile<'a>,
+    second: &ValidFile<'a>,
     sections: &[Section],
 ) -> Result<(), AllocError>
-    requires { AreParsed (pair_view files) }
-    ensures { OnOk result (reports_of reports.new.items ≡ reports_of reports.old.items
-        ++ flat_map (table_differences (pair_view files.entry)) sections.now) }
+    requires { AreParsed (valid_view first.now, valid_view second.now) }
+    ensures { OnOk result (reports_of reports.new.items ≡ reports_of reports.old.items ++ flat_map
+        (table_differences (valid_view first.now, valid_view second.now)) sections.now) }
 {
+    let mut files = Pair {
+        first: comparing(first),
+        second: comparing(second),
+    };
     for section in sections {
-        add_table(alloc, reports, files, *section)?;
+        add_table(alloc, reports, &mut files, *section)?;
     }
     Ok(())
 }

@@ -1,3 +1,4 @@
+pub mod Kept
 pub mod Position
 pub mod Reading
 pub mod Written

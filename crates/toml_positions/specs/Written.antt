@@ -1,5 +1,5 @@
 -- What the expressions of a text write.
-use Rattle.std.specs.Prelude.{◌≡◌, ℕ, ◌-◌, zero, suc, Bool, true, false, ◌&&◌, ◌||◌, ◌==◌, nat_le, if◌then◌else◌, List, [], ◌∷◌, ◌++◌, length, take, drop, slice_index, map, bytes_eq, is_some, Option, Some, None, option_and_then, option_map}
+use Rattle.std.specs.Prelude.{ℕ, ◌-◌, zero, suc, Bool, true, false, ◌&&◌, ◌||◌, ◌==◌, nat_le, if◌then◌else◌, List, [], ◌∷◌, ◌++◌, length, take, drop, slice_index, map, bytes_eq, is_some, Option, Some, None, option_and_then, option_map}
 use Rattle.toml_parser.specs.Lexical.{Read, left_bracket, first, skip_ws, skip_blank}
 use Rattle.toml_parser.specs.Strings.{Key}
 use Rattle.toml.specs.Data.{Data, get, table}
@@ -102,10 +102,6 @@ has_path text path = is_some (value_at path (option_map table (parse_document te
 abbrev pub position_in : List ℕ → List (List ℕ) → Option Position
 position_in text path =
     if has_path text path then first_position text path (written_in text) else None
-
--- the positions where some paths are first written
-abbrev pub ArePlaces : List ℕ → List (List (List ℕ)) → List (Option Position) → Type 0
-ArePlaces text paths found = found ≡ map (position_in text) paths
 
 -- the path of a key of a table
 abbrev pub path_view : KeyPath → List (List ℕ)

@@ -2,10 +2,10 @@
 //!
 //! The toolchain's `toml` reads a text to a table and gives no positions. This crate goes over the
 //! expressions of a text that is TOML once, by the grammar of `toml`, and finds where each of some
-//! paths is first written.
+//! paths is first written, one after the other.
 #![tactic(auto)]
 
 mod expression;
 mod position;
 
-pub use position::{KeyPath, Position, position_after, positions_of};
+pub use position::{KeyPath, Position, Positions, position_after};

@@ -8,11 +8,13 @@ ghost use Rattle.toml.specs.Parse as spec;
 ghost use Rattle.toml.specs.View.{table_view, view};
 ghost use Rattle.toml_positions.specs.Position.{column_after, position_after};
 ghost use Rattle.toml_positions.specs.Written.{agree, writes, parts, path_below, path_view};
-ghost use Rattle.toml_positions.specs.Written.{first_position, written_in, ArePlaces};
+ghost use Rattle.toml_positions.specs.Kept.{IsKeptOf};
+ghost use Rattle.toml_positions.specs.Written.{first_position, written_in};
 ghost use Rattle.toml_positions.specs.Written.{position_in, value_at, written_view};
 
 use crate::expression::{Head, past_brackets, read_expression};
 use std::alloc::{AllocError, Global};
+use std::marker::Model;
 use toml::{Table, Value};
 use toml_parser::text::{byte_at, first, skip_blank};
 use toml_parser::{Key, bytes};
@@ -279,23 +281,35 @@ fn parse(alloc: Global, text: &str) -> Result<Option<Table>, AllocError>
     }
 }
 
-/// The position where a path that a file has is first written, by the expressions of its text.
+/// What is kept of a text that was gone over.
+#[derive(Drop)]
+struct Kept {
+    /// The table that it is, if it is TOML.
+    file: Option<Table>,
+    /// Its expressions.
+    all: Vec<Written>,
+}
+
+/// Goes over a text.
+fn keep(alloc: Global, text: &str) -> Result<Kept, AllocError>
+    ensures { IfOk result (IsKeptOf text.now) }
+{
+    Ok(Kept {
+        file: parse(alloc, text)?,
+        all: written_in(alloc, text)?,
+    })
+}
+
+/// The position where a path that a text has is first written, by what is kept of the text.
 #[tactic(auto, using(crate::proofs::Paths::nothing_at))]
-fn position_of(
-    text: &str,
-    file: &Option<Table>,
-    all: &[Written],
-    path: &KeyPath<'_>,
-) -> Option<Position>
-    requires file { option_map table_view file.now ≡ spec.parse_document text.now }
-    requires all { IsSome (spec.parse_document text.now)
-        → map written_view all.now ≡ written_in text.now }
+fn position_of(text: &str, kept: &Kept, path: &KeyPath<'_>) -> Option<Position>
+    requires { IsKeptOf text.now kept.now }
     ensures { result ≡ position_in text.now (path_view path.now) }
 {
-    match file {
+    match &kept.file {
         Some(table) => {
             if has(table, path) {
-                first_position(text, all, path)
+                first_position(text, kept.all.as_slice(), path)
             } else {
                 None
             }
@@ -304,39 +318,57 @@ fn position_of(
     }
 }
 
-/// The positions where some paths that a file has are first written.
-fn positions_among(
-    alloc: Global,
-    text: &str,
-    file: &Option<Table>,
-    all: &[Written],
-    paths: &[KeyPath<'_>],
-) -> Result<Vec<Option<Position>>, AllocError>
-    requires file { option_map table_view file.now ≡ spec.parse_document text.now }
-    requires all { IsSome (spec.parse_document text.now)
-        → map written_view all.now ≡ written_in text.now }
-    ensures { IfOk result (λ found. ArePlaces text.now (map path_view paths.now) found.items) }
-{
-    let mut found = Vec::new(alloc);
-    for path in paths {
-        found.push(position_of(text, file, all, path))?;
-    }
-    Ok(found)
+/// Where the keys of a text stand. The text is gone over where the first position is looked up, and
+/// what its expressions write is kept for the others.
+#[derive(Drop)]
+pub struct Positions<'a> {
+    text: &'a str,
+    kept: Option<Kept>,
 }
 
-/// The position where each of some paths of keys is first written in a text that is TOML: the key
-/// of the first expression whose path leads through it, or of the first pair whose path it leads
-/// through. A path at which the text has nothing has none, and no path of a text that is no TOML.
-///
-/// The text is gone over twice, and up to the key of each path that is found.
-pub fn positions_of(
-    alloc: Global,
-    text: &str,
-    paths: &[KeyPath<'_>],
-) -> Result<Vec<Option<Position>>, AllocError>
-    ensures { IfOk result (λ found. ArePlaces text.now (map path_view paths.now) found.items) }
-{
-    let file = parse(alloc, text)?;
-    let all = written_in(alloc, text)?;
-    positions_among(alloc, text, &file, all.as_slice(), paths)
+impl<'a> Model for Positions<'a> {
+    ghost use Rattle.std.specs.Prelude.{ℕ, List, IfSome};
+    ghost use Rattle.toml_positions.specs.Kept.{IsKeptOf};
+
+    ghost Value = { List ℕ };
+
+    ghost view = { λ p. p.text.now };
+
+    ghost invariant = { λ p. IfSome p.kept (IsKeptOf p.text.now) };
+}
+
+impl<'a> Positions<'a> {
+    /// Those of this text.
+    pub fn of(text: &'a str) -> Self
+        ensures { result ≡ text.now }
+    {
+        Positions { text, kept: None }
+    }
+
+    /// The text.
+    pub fn text(&self) -> &'a str
+        ensures { result.now ≡ self.now }
+    {
+        self.text
+    }
+
+    /// The position where a path of keys is first written in a text that is TOML: the key of the
+    /// first expression whose path leads through it, or of the first pair whose path it leads
+    /// through. A path at which the text has nothing has none, and no path of a text that is no
+    /// TOML.
+    ///
+    /// The text is gone over twice for the first path, and up to the key of each that is found.
+    pub fn at(&mut self, alloc: Global, path: &KeyPath<'_>) -> Result<Option<Position>, AllocError>
+        ensures text { self.new ≡ self.old }
+        ensures position { IfOk result (λ found.
+            found ≡ position_in self.old (path_view path.now)) }
+    {
+        let kept = match self.kept.take() {
+            Some(kept) => kept,
+            None => keep(alloc, self.text)?,
+        };
+        let found = position_of(self.text, &kept, path);
+        self.kept = Some(kept);
+        Ok(found)
+    }
 }

@@ -4,7 +4,7 @@ use Rattle.config_report.proofs.Lines.{map_twice}
 use Rattle.config_report.proofs.check.list_of.Goals as goal
 
 pub returns : goal.returns
-returns c = λ some.
+returns c =
     let text = c.args.text.now in
     let contents = c.args.contents.now in
     let faults = contents.faults.items in
@@ -19,14 +19,20 @@ returns c = λ some.
     ) refl in
     let said = map-append (note_in text) (map fault_topic c.as_slice.result.now)
     (map unknown_topic c.as_slice-2.result.now) in
-    let first = c.in_ok-add_findings.ensures some in
-    let second = c.in_ok-add_findings-2.ensures some in
+    let first = c.in_ok-add_findings.ensures.added in
+    let second = c.in_ok-add_findings-2.ensures.added in
     let found : map contradiction_view c.as_slice-3.result.now ≡ contradictions_in contents.config =
     ap (λ l. map contradiction_view l) c.as_slice-3.ensures.value
     ∙ c.in_ok-contradictions.ensures ∙ ap contradictions_in c.as_ref.ensures.value in
-    let beside = c.in_ok-add_contradictions.ensures some in (
+    let beside = c.in_ok-add_contradictions.ensures in (
       c.add_contradictions.new.list.items,
-      grind (arith, append_assoc),
+      grind (
+        arith,
+        append_assoc,
+        c.of.ensures,
+        c.add_findings.ensures.text,
+        c.add_findings-2.ensures.text,
+      ),
       record {
         same = c.in_ok-sort_by_key.ensures.permutation;
         ordered = c.in_ok-sort_by_key.ensures.sorted finding_sort_key

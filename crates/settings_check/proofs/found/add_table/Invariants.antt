@@ -6,8 +6,10 @@ use Rattle.settings_check.proofs.found.add_table.Given as goal
 
 abbrev pub invariant-loop-index : goal.invariant-loop-index
 invariant-loop-index l =
-    let files = pair_view l.files in
-    reports_of l.reports.items
+    let was = l.initial.files in
+    let files = pair_view was in
+    (l.files ≡ was)
+    × (reports_of l.reports.items
     ++ flat_map (setting_differences files l.section)
-    (drop l.index (value_pairs l.files.first.now.config l.files.second.now.config l.section))
-    ≡ reports_of l.initial.reports.items ++ table_differences files l.section
+    (drop l.index (value_pairs files.0.config files.1.config l.section))
+    ≡ reports_of l.initial.reports.items ++ table_differences files l.section)
