@@ -1,5 +1,5 @@
 -- Commands as they were called, calls as they were seen, and what they do.
-use Rattle.std.specs.Prelude.{◌+◌, ◌<◌, ◌↔◌, ◌∷◌, ◌≡◌, List, None, Option, Some, [], slice_get, ℕ, ◌≢◌, AllPairs}
+use Rattle.std.specs.Prelude.{◌+◌, ◌<◌, ◌↔◌, ◌∷◌, ◌≡◌, ◌≢◌, AllPairs, Bool, List, None, Option, Some, [], false, slice_get, true, ℕ}
 use Rattle.service_conformance.specs.Prelude.{ByPort, Command, Handle, IsService, Reply, Serves, Service, option_map, plain_of, text_of}
 use Rattle.histories.specs.Histories.{AreAll}
 use Rattle.iox2_container.specs.declared.container.handle.Role.{Role}
@@ -63,6 +63,13 @@ command_adds (command.Register id) = Some role.Node
 command_adds (command.Add details) = Some (role_of details)
 command_adds c = None
 
+-- whether a command is a query of nodes or ports, which changes nothing
+abbrev pub is_query : Command → Bool
+is_query command.Nodes = true
+is_query (command.List role) = true
+is_query (command.Count role) = true
+is_query _ = false
+
 -- a call whose reply was not seen
 abbrev pub call_of : Command → Option Handle → Call
 call_of c handle = record { command = at_first c; handle = handle_for c handle; words = None }
@@ -118,6 +125,10 @@ HasNumber first calls number call =
 -- none of them has this number
 abbrev pub LacksNumber : {C : Type 0} → ℕ → List C → ℕ → Type 0
 LacksNumber {C} first calls number = (call : C) → ¬ (HasNumber first calls number call)
+
+-- the command can be asked: it has a reply, and leaves the service as it is
+abbrev pub CanAsk : Service → List (Option Handle) → Command → Type 0
+CanAsk s handles c = (r : Reply) × Serves s None handles c r s
 
 -- these are the replies, by their words, with which the call leads from the service to another
 abbrev pub AreRepliesOf : Service → Call → PossibleReplies → Type 0
