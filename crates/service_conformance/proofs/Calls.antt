@@ -2,7 +2,6 @@
 use Rattle.service_conformance.proofs.Names.{All-push, All-weaker, AllocError, Contains, Contains-append_left, Contains-push, IfOk, List, None, Option, Result, Some, [], ap, arith, false, inl, inr, refl, subst, sym, true, ℕ, ◌++◌, ◌+◌, ◌<◌, ◌∙◌, ◌∷◌, ◌≡◌, ◌⊎◌, cases_lt, IfOk-weaker, All-cons, All-nil, All, get_or, length, ◌≢◌, all_pairs_push, AreAll, ArePossible, ArePossibleWords, AreRepliesOf, Call, CallStep, CanServe, ChangesNothing, Command, GivesBelow, Handle, IsIdleCall, IsSameReply, IsService, LeadsOn, LeadsTo, LineReply, MayGiveIn, Part, Possible, PossibleReplies, Reply, SeenReply, Serves, ServesCall, ServesDead, Service, ReadsReply, changes_nothing, handle_in, is_removal, quiet, reply_in, seen_text, text_of, AreEnough, AreGivenBelow, All-head, Ok, AddStep, Entry, RegistryState, ports_at, role_of, slot_entry, Cleanup, CanAsk, CanList, IsEither, IsNeither, Role, ServesCount, ServesList, first_role, is_query, second_role}
 use Rattle.service_descriptions.specs.declared.replay.machine.command.Command.TheVariants as command
 use Rattle.service_descriptions.specs.declared.replay.machine.reply.Reply.TheVariants as reply
-use Rattle.service_conformance.specs.declared.conformance.possible.Part.TheVariants as part
 use Rattle.service_conformance.specs.declared.conformance.possible.Possible.TheVariants as possible
 use Rattle.service_conformance.proofs.Following.{attach_stays, deregister_stays, register_stays, release_stays}
 use Rattle.service_conformance.proofs.Seen.{reported_nothing}
@@ -310,14 +309,19 @@ module _ (call : Call) (q : is_query call.command ≡ true) where
 
 replies_by_words : (call : Call) (s : Service) (p : PossibleReplies) → IsService s → quiet s ≡ s
     → ArePossibleWords (ServesCall call s) p → AreRepliesOf s call p
-replies_by_words call s p is rest all words = (
-  λ a.
-      let r = (all words).0 a in
-      (quiet r.2.0, (is, rest, (r.0, r.1, (r.2.0, r.2.1, r.2.2, refl)))),
-  λ j.
-      let on = j.1.2.2 in
-      (all words).1 (j.1.2.0, j.1.2.1, (on.0, on.1, on.2)),
-)
+replies_by_words call s p is rest all = record {
+  by_words = λ words. (
+    λ a.
+        let r = (all.by_words words).0 a in
+        (quiet r.2.0, (is, rest, (r.0, r.1, (r.2.0, r.2.1, r.2.2, refl)))),
+    λ j.
+        let on = j.1.2.2 in
+        (all.by_words words).1 (j.1.2.0, j.1.2.1, (on.0, on.1, on.2)),
+  );
+  itself = λ r e.
+      let can = all.itself r e in
+      (quiet can.0, (can.0, can.1, can.2, refl));
+}
 
 pub replies_found : (call : Call) (s : Service) (found : Result PossibleReplies AllocError)
     → IsService s → quiet s ≡ s → IfOk found (ArePossibleWords (ServesCall call s))

@@ -9,6 +9,7 @@ use Rattle.service_descriptions.specs.declared.replay.machine.command.Command.Th
 use Rattle.service_descriptions.specs.declared.replay.machine.reply.Reply.TheVariants as reply
 use Rattle.service_conformance.specs.declared.conformance.possible.Part.{Part}
 use Rattle.service_conformance.specs.declared.conformance.possible.PossibleReplies.{PossibleReplies}
+use Rattle.service_conformance.specs.declared.conformance.possible.PossibleReplies.TheVariants as replies
 use Rattle.service_conformance.specs.Possible.{MayGiveIn}
 use Rattle.service_conformance.specs.Quiet.{quiet}
 use Rattle.service_conformance.specs.Words.{AllowsWords}
@@ -130,11 +131,12 @@ LacksNumber {C} first calls number = (call : C) → ¬ (HasNumber first calls nu
 abbrev pub CanAsk : Service → List (Option Handle) → Command → Type 0
 CanAsk s handles c = (r : Reply) × Serves s None handles c r s
 
--- these are the replies, by their words, with which the call leads from the service to another
-abbrev pub AreRepliesOf : Service → Call → PossibleReplies → Type 0
-AreRepliesOf s call p =
-    (words : List ℕ)
-    → AllowsWords p words ↔ ((new : Service) × CallStep (answered call words) s new)
+-- These are the replies, by their words, with which the call leads from the service to another.
+-- Where it is one alone, the call leads on with that reply itself.
+pub record AreRepliesOf (s : Service) (call : Call) (p : PossibleReplies) : Type 0 where
+  pub by_words : (words : List ℕ)
+      → AllowsWords p words ↔ ((new : Service) × CallStep (answered call words) s new)
+  pub itself : (r : Reply) → p ≡ replies.One r → (new : Service) × LeadsOn call s r new
 
 -- the call that the fields tell
 abbrev pub seen_as : Inside → Call
