@@ -1,8 +1,7 @@
 -- What calls that were seen do.
-use Rattle.service_conformance.proofs.Names.{All-push, All-weaker, AllocError, Contains, Contains-append_left, Contains-push, IfOk, List, None, Option, Result, Some, [], ap, arith, false, inl, inr, refl, subst, sym, true, ℕ, ◌++◌, ◌+◌, ◌<◌, ◌∙◌, ◌∷◌, ◌≡◌, ◌⊎◌, cases_lt, IfOk-weaker, All-cons, All-nil, All, get_or, length, ◌≢◌, all_pairs_push, AreAll, ArePossible, ArePossibleWords, AreRepliesOf, Call, CallStep, CanServe, ChangesNothing, Command, GivesBelow, Handle, IsIdleCall, IsSameReply, IsService, LeadsOn, LeadsTo, LineReply, MayGiveIn, Part, Possible, PossibleReplies, Reply, SeenReply, Serves, ServesCall, ServesDead, Service, ReadsReply, changes_nothing, handle_in, is_removal, quiet, reply_in, seen_text, text_of, AreEnough, AreGivenBelow, All-head, Ok, AddStep, Entry, RegistryState, ports_at, role_of, slot_entry, Cleanup}
+use Rattle.service_conformance.proofs.Names.{All-push, All-weaker, AllocError, Contains, Contains-append_left, Contains-push, IfOk, List, None, Option, Result, Some, [], ap, arith, false, inl, inr, refl, subst, sym, true, ℕ, ◌++◌, ◌+◌, ◌<◌, ◌∙◌, ◌∷◌, ◌≡◌, ◌⊎◌, cases_lt, IfOk-weaker, All-cons, All-nil, All, get_or, length, ◌≢◌, all_pairs_push, AreAll, ArePossible, ArePossibleWords, AreRepliesOf, Call, CallStep, CanServe, ChangesNothing, Command, GivesBelow, Handle, IsIdleCall, IsSameReply, IsService, LeadsOn, LeadsTo, LineReply, MayGiveIn, Part, Possible, PossibleReplies, Reply, SeenReply, Serves, ServesCall, ServesDead, Service, ReadsReply, changes_nothing, handle_in, is_removal, quiet, reply_in, seen_text, text_of, AreEnough, AreGivenBelow, All-head, Ok, AddStep, Entry, RegistryState, ports_at, role_of, slot_entry, Cleanup, CanAsk, CanList, IsEither, IsNeither, Role, ServesCount, ServesList, first_role, is_query, second_role}
 use Rattle.service_descriptions.specs.declared.replay.machine.command.Command.TheVariants as command
 use Rattle.service_descriptions.specs.declared.replay.machine.reply.Reply.TheVariants as reply
-use Rattle.service_conformance.specs.declared.conformance.possible.Part.TheVariants as part
 use Rattle.service_conformance.specs.declared.conformance.possible.Possible.TheVariants as possible
 use Rattle.service_conformance.proofs.Following.{attach_stays, deregister_stays, register_stays, release_stays}
 use Rattle.service_conformance.proofs.Seen.{reported_nothing}
@@ -10,7 +9,7 @@ use Rattle.service_conformance.proofs.Words.{IsPlain, same_handle, same_or_plain
 use Rattle.std.proofs.lemmas.Bool.{cases_eq}
 use Rattle.iox2_container.proofs.Lists.{All-back}
 use Rattle.iox2_container.proofs.Keeping.{All-gain}
-use Rattle.service_conformance.proofs.Taking.{its_ports, taken_at}
+use Rattle.service_conformance.proofs.Taking.{its_ports, known_role, taken_at}
 
 -- of a registry
 one_added : {T : Type 0} (r n : RegistryState T) (d : T) (g h : Handle) → AddStep r d (Ok g) n
@@ -255,16 +254,74 @@ module _ (call : Call) (seen : SeenReply) (has : call.words ≡ Some (seen_text 
         changes_none,
       )
 
+-- what lists and counts of the ports of a role reply
+module _ (s : Service) (role : Role) where
+  abbrev Known : Type 0
+  Known =
+      IsEither (first_role s.pattern) (second_role s.pattern) role
+      ⊎ IsNeither (first_role s.pattern) (second_role s.pattern) role
+
+  list_of : CanList s.ports.first.registry → CanList s.ports.second.registry → Known
+      → (r : Reply) × ServesList s role r
+  list_of one two (inl (inl e)) = (reply.Ports one.0, inl (e, one.1))
+  list_of one two (inl (inr e)) = (reply.Ports two.0, inr (e, two.1))
+  list_of one two (inr none) = (reply.WrongPattern, none)
+
+  count_of : Known → (r : Reply) × ServesCount s role r
+  count_of (inl (inl e)) = (reply.Count (length s.ports.first.registry.entries), inl (e, refl))
+  count_of (inl (inr e)) = (reply.Count (length s.ports.second.registry.entries), inr (e, refl))
+  count_of (inr none) = (reply.WrongPattern, none)
+
+pub can_ask : (s : Service) (handles : List (Option Handle)) (c : Command)
+    → CanList s.nodes.registry → CanList s.ports.first.registry → CanList s.ports.second.registry
+    → is_query c ≡ true → CanAsk s handles c
+can_ask s handles command.Nodes nodes one two q = (reply.Nodes nodes.0, (nodes.1, refl))
+can_ask s handles (command.List role) nodes one two q =
+    let list = list_of s role one two (known_role s.pattern role) in
+    (list.0, (list.1, refl))
+can_ask s handles (command.Count role) nodes one two q =
+    let count = count_of s role (known_role s.pattern role) in
+    (count.0, (count.1, refl))
+can_ask s handles _ nodes one two q = grind arith
+
+-- a query leaves the service as it is
+query_stays : (s mid : Service) (handles : List (Option Handle)) (c : Command) (r : Reply)
+    → is_query c ≡ true → Serves s None handles c r mid → mid ≡ s
+query_stays s mid handles command.Nodes r q so = so.1
+query_stays s mid handles (command.List role) r q so = so.1
+query_stays s mid handles (command.Count role) r q so = so.1
+query_stays s mid handles _ r q so = grind arith
+
+module _ (call : Call) (q : is_query call.command ≡ true) where
+  pub query_changes_none : ChangesNothing call
+  query_changes_none old new step =
+      let on = step.2.2 in
+      sym on.3
+      ∙ (ap quiet (query_stays old on.0 (call.handle ∷ []) call.command step.2.0 q on.1) ∙ step.1)
+
+  -- a query whose reply was not seen
+  pub open_query : (s : Service) → IsService s → quiet s ≡ s
+      → CanAsk s (call.handle ∷ []) call.command → call.words ≡ None → IsIdleCall call s
+  open_query s is rest asked none = (
+    (is, rest, (asked.0, rw none tt, (s, asked.1, is, rest))),
+    query_changes_none,
+  )
+
 replies_by_words : (call : Call) (s : Service) (p : PossibleReplies) → IsService s → quiet s ≡ s
     → ArePossibleWords (ServesCall call s) p → AreRepliesOf s call p
-replies_by_words call s p is rest all words = (
-  λ a.
-      let r = (all words).0 a in
-      (quiet r.2.0, (is, rest, (r.0, r.1, (r.2.0, r.2.1, r.2.2, refl)))),
-  λ j.
-      let on = j.1.2.2 in
-      (all words).1 (j.1.2.0, j.1.2.1, (on.0, on.1, on.2)),
-)
+replies_by_words call s p is rest all = record {
+  by_words = λ words. (
+    λ a.
+        let r = (all.by_words words).0 a in
+        (quiet r.2.0, (is, rest, (r.0, r.1, (r.2.0, r.2.1, r.2.2, refl)))),
+    λ j.
+        let on = j.1.2.2 in
+        (all.by_words words).1 (j.1.2.0, j.1.2.1, (on.0, on.1, on.2)),
+  );
+  itself = λ r e.
+      let can = all.itself r e in
+      (quiet can.0, (can.0, can.1, can.2, refl));
+}
 
 pub replies_found : (call : Call) (s : Service) (found : Result PossibleReplies AllocError)
     → IsService s → quiet s ≡ s → IfOk found (ArePossibleWords (ServesCall call s))

@@ -1,5 +1,7 @@
 -- The two registries of ports, and steps of a service, by the registry that takes them.
-use Rattle.service_conformance.proofs.Names.{ap, ℕ, ◌≡◌, Changes, ContainerState, First, IsRegistry, OnSide, PortDetails, RegistryState, Role, Second, Service, Side, at_rest, first_role, of_side, other_side, ports_at, quiet, role_at, second_role, arith, inl, inr, refl, suc, zero, ◌<◌, Handle, IsEither, IsNeither, IsPortRegistry, IsService, MayGive, MayGiveIn, PatternKind, Ports, part_at, with_ports_at}
+use Rattle.service_conformance.proofs.Names.{ap, ℕ, ◌≡◌, Changes, ContainerState, First, IsRegistry, OnSide, PortDetails, RegistryState, Role, Second, Service, Side, at_rest, first_role, of_side, other_side, ports_at, quiet, role_at, second_role, arith, inl, inr, refl, suc, zero, ◌<◌, Handle, IsEither, IsNeither, IsPortRegistry, IsService, MayGive, MayGiveIn, PatternKind, Ports, part_at, with_ports_at, ◌⊎◌}
+use Rattle.iox2_config.specs.declared.hash.input.PatternKind.TheVariants as kind
+use Rattle.iox2_container.specs.declared.container.handle.Role.TheVariants as role
 use Rattle.iox2_dynamic.proofs.Rooms.{roles_differ}
 
 pub positive : (n : ℕ) → (n ≡ 0 → ⊥) → 0 < n
@@ -19,6 +21,19 @@ pub lacks : (p : PatternKind) (role : Role) → IsNeither (first_role p) (second
     → IsEither (first_role p) (second_role p) role → ⊥
 lacks p role n (inl e) = n.0 e
 lacks p role n (inr e) = n.1 e
+
+-- a role is that of the first ports, of the second ones, or of none
+pub known_role : (p : PatternKind) (r : Role)
+    → IsEither (first_role p) (second_role p) r ⊎ IsNeither (first_role p) (second_role p) r
+known_role kind.PublishSubscribe role.Publisher = inl (inl refl)
+known_role kind.PublishSubscribe role.Subscriber = inl (inr refl)
+known_role kind.Event role.Listener = inl (inl refl)
+known_role kind.Event role.Notifier = inl (inr refl)
+known_role kind.RequestResponse role.Server = inl (inl refl)
+known_role kind.RequestResponse role.Client = inl (inr refl)
+known_role kind.Blackboard role.Reader = inl (inl refl)
+known_role kind.Blackboard role.Writer = inl (inr refl)
+known_role _ _ = inr (λ e. cc, λ e. cc)
 
 pub ports_are : (s : Service) (side : Side) → IsService s
     → IsPortRegistry s.nodes.registry (role_at s.pattern side) (ports_at s side).registry

@@ -1,5 +1,5 @@
 -- What words tell.
-use Rattle.service_conformance.proofs.Names.{All-map, List, None, Option, Some, [], ap, append-nil, append_assoc, append_cancel_left, arith, codes, decimal, decimal_injective, map, refl, subst, sym, ℕ, ◌++◌, ◌+◌, ◌<◌, ◌^◌, ◌∙◌, ◌∷◌, ◌≡◌, ◌≢◌, get_or-map, length-map, false, inl, inr, ◌⊎◌, AllowsWords, ArePossible, ArePossibleWords, Bytes, EndsNumber, Entry, Handle, IsNextHandle, IsNextIn, IsSameReply, MayGive, MayGiveIn, NextHandle, Part, RegistryState, Reply, Service, Spelling, ReadsReplyHandle, after, handle_words, line_end, number_one, sequence, text_of, handle_in, is_removal, All}
+use Rattle.service_conformance.proofs.Names.{All-map, List, None, Option, Some, [], ap, append-nil, append_assoc, append_cancel_left, arith, codes, decimal, decimal_injective, map, refl, subst, sym, ℕ, ◌++◌, ◌+◌, ◌<◌, ◌^◌, ◌∙◌, ◌∷◌, ◌≡◌, ◌≢◌, get_or-map, length-map, false, inl, inr, ◌⊎◌, AllowsWords, ArePossible, ArePossibleWords, Bytes, EndsNumber, Entry, Handle, IsNextHandle, IsNextIn, IsSameReply, MayGive, MayGiveIn, NextHandle, Part, RegistryState, Reply, Service, Spelling, ReadsReplyHandle, after, handle_words, line_end, number_one, sequence, text_of, handle_in, is_removal, All, CanServe, LineReply, PortDetails, PossibleReplies, flat_map, id_word, port_word, reply_in}
 use Rattle.service_descriptions.specs.declared.replay.machine.reply.Reply.TheVariants as reply
 use Rattle.service_descriptions.proofs.Lines.{any_fits, any_number}
 use Rattle.service_conformance.specs.declared.conformance.possible.Part.TheVariants as part
@@ -130,7 +130,32 @@ module _ {T : Type 0} (r : RegistryState T) (next : NextHandle) (is : IsNextHand
     ap (handle_words h.slot) (is.ticket ∙ sym may.ticket) ∙ e,
   )
 
+same_text : (r q : Reply) → IsSameReply r q → text_of r ≡ text_of q
+same_text (reply.Nodes ids) (reply.Nodes other) e =
+    ap (λ (l : List ℕ). codes "list" ++ flat_map id_word l) e
+same_text (reply.Ports ports) (reply.Ports other) e =
+    ap (λ (l : List PortDetails). codes "list" ++ flat_map port_word l) e
+same_text _ _ e = ap text_of e
+
+-- the reply where it is one alone
+abbrev reply_alone : Reply → PossibleReplies → Reply
+reply_alone other (replies.One r) = r
+reply_alone other _ = other
+
 module _ (s : Service) (Step : Reply → Service → Type 0) where
+  pub one_words : (one : LineReply) → ArePossible s Step (possible.One one)
+      → ArePossibleWords Step (replies.One (reply_in one))
+  one_words one all =
+      let r = reply_in one in
+      let can = all.can r (same_reply r) in
+      record {
+        by_words = λ words. (
+          λ e. (r, e, can),
+          λ a. same_text r a.0 (all.only a.0 a.2.0 a.2.1 a.2.2) ∙ a.1,
+        );
+        itself = λ q e. subst (CanServe Step) (ap (reply_alone r) e) can;
+      }
+
   module _ (part : Part) (next : NextHandle)
       (all : ArePossible s Step (possible.Given part)) where
     -- where the handles that may be given are those of a registry
@@ -138,14 +163,17 @@ module _ (s : Service) (Step : Reply → Service → Type 0) where
         → ((h : Handle) → MayGive r h → MayGiveIn s part h)
         → ((h : Handle) → MayGiveIn s part h → MayGive r h)
         → ArePossibleWords Step (replies.Handle next)
-    by_registry r is here there words = (
-      λ a.
-          let h = next_may r next is words a in
-          (reply.Handle h.0, h.2, all.can (reply.Handle h.0) (h.0, refl, here h.0 h.1)),
-      λ a.
-          let h = all.only a.0 a.2.0 a.2.1 a.2.2 in
-          may_next r next is words h.0 (there h.0 h.2) (ap text_of (sym h.1) ∙ a.1),
-    )
+    by_registry r is here there = record {
+      by_words = λ words. (
+        λ a.
+            let h = next_may r next is words a in
+            (reply.Handle h.0, h.2, all.can (reply.Handle h.0) (h.0, refl, here h.0 h.1)),
+        λ a.
+            let h = all.only a.0 a.2.0 a.2.1 a.2.2 in
+            may_next r next is words h.0 (there h.0 h.2) (ap text_of (sym h.1) ∙ a.1),
+      );
+      itself = λ one e. absurd (cc);
+    }
 
   pub given_words : (part : Part) (next : NextHandle) → ArePossible s Step (possible.Given part)
       → IsNextIn s part next → ArePossibleWords Step (replies.Handle next)

@@ -1,5 +1,5 @@
 -- Commands as they were called, calls as they were seen, and what they do.
-use Rattle.std.specs.Prelude.{◌+◌, ◌<◌, ◌↔◌, ◌∷◌, ◌≡◌, List, None, Option, Some, [], slice_get, ℕ, ◌≢◌, AllPairs}
+use Rattle.std.specs.Prelude.{◌+◌, ◌<◌, ◌↔◌, ◌∷◌, ◌≡◌, ◌≢◌, AllPairs, Bool, List, None, Option, Some, [], false, slice_get, true, ℕ}
 use Rattle.service_conformance.specs.Prelude.{ByPort, Command, Handle, IsService, Reply, Serves, Service, option_map, plain_of, text_of}
 use Rattle.histories.specs.Histories.{AreAll}
 use Rattle.iox2_container.specs.declared.container.handle.Role.{Role}
@@ -9,6 +9,7 @@ use Rattle.service_descriptions.specs.declared.replay.machine.command.Command.Th
 use Rattle.service_descriptions.specs.declared.replay.machine.reply.Reply.TheVariants as reply
 use Rattle.service_conformance.specs.declared.conformance.possible.Part.{Part}
 use Rattle.service_conformance.specs.declared.conformance.possible.PossibleReplies.{PossibleReplies}
+use Rattle.service_conformance.specs.declared.conformance.possible.PossibleReplies.TheVariants as replies
 use Rattle.service_conformance.specs.Possible.{MayGiveIn}
 use Rattle.service_conformance.specs.Quiet.{quiet}
 use Rattle.service_conformance.specs.Words.{AllowsWords}
@@ -62,6 +63,13 @@ abbrev pub command_adds : Command → Option Role
 command_adds (command.Register id) = Some role.Node
 command_adds (command.Add details) = Some (role_of details)
 command_adds c = None
+
+-- whether a command is a query of nodes or ports, which changes nothing
+abbrev pub is_query : Command → Bool
+is_query command.Nodes = true
+is_query (command.List role) = true
+is_query (command.Count role) = true
+is_query _ = false
 
 -- a call whose reply was not seen
 abbrev pub call_of : Command → Option Handle → Call
@@ -119,11 +127,16 @@ HasNumber first calls number call =
 abbrev pub LacksNumber : {C : Type 0} → ℕ → List C → ℕ → Type 0
 LacksNumber {C} first calls number = (call : C) → ¬ (HasNumber first calls number call)
 
--- these are the replies, by their words, with which the call leads from the service to another
-abbrev pub AreRepliesOf : Service → Call → PossibleReplies → Type 0
-AreRepliesOf s call p =
-    (words : List ℕ)
-    → AllowsWords p words ↔ ((new : Service) × CallStep (answered call words) s new)
+-- the command can be asked: it has a reply, and leaves the service as it is
+abbrev pub CanAsk : Service → List (Option Handle) → Command → Type 0
+CanAsk s handles c = (r : Reply) × Serves s None handles c r s
+
+-- These are the replies, by their words, with which the call leads from the service to another.
+-- Where it is one alone, the call leads on with that reply itself.
+pub record AreRepliesOf (s : Service) (call : Call) (p : PossibleReplies) : Type 0 where
+  pub by_words : (words : List ℕ)
+      → AllowsWords p words ↔ ((new : Service) × CallStep (answered call words) s new)
+  pub itself : (r : Reply) → p ≡ replies.One r → (new : Service) × LeadsOn call s r new
 
 -- the call that the fields tell
 abbrev pub seen_as : Inside → Call

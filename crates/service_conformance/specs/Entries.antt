@@ -1,6 +1,6 @@
 -- Entries by rising slot, handles, and the number by which a service is found among many.
 use Rattle.std.specs.Prelude.{◌%◌, ◌*◌, ◌+◌, ◌<◌, ◌≡◌, ◌≢◌, ◌≤◌, All, List, None, Option, Some, drop, false, fold, length, slice_get, take, true, ℕ}
-use Rattle.service_conformance.specs.Prelude.{ContainerAddFailure, Entry, Handle, IsFull, IsLocked, OutOfSpace, RegistryState, ReleaseMode, Service, TakesEntry, handle_of, lock_after}
+use Rattle.service_conformance.specs.Prelude.{ContainerAddFailure, Entry, Handle, IsFull, IsLocked, OutOfSpace, RegistryState, ReleaseMode, Service, TakesEntry, Vec, handle_of, listed, lock_after}
 
 -- an entry of this slot may be put in the position
 pub record IsFreePosition {T : Type 0} (es : List (Entry T)) (slot position : ℕ) : Type 0 where
@@ -39,6 +39,10 @@ abbrev pub Refuses : {T : Type 0} → RegistryState T → Option ContainerAddFai
 Refuses r None = TakesEntry r
 Refuses r (Some IsLocked) = r.locked ≡ true
 Refuses r (Some OutOfSpace) = (r.locked ≡ false) × IsFull r
+
+-- a list can have the details of its entries
+abbrev pub CanList : {T : Type 0} → RegistryState T → Type 0
+CanList {T} r = (list : Vec T) × (list.items ≡ listed r)
 
 -- the registry, with these entries left of it
 abbrev pub with_left : {T : Type 0} → RegistryState T → ReleaseMode → List (Entry T)

@@ -24,5 +24,6 @@ pub use Rattle.service_descriptions.specs.declared.replay.machine.command.Cleanu
 pub use Rattle.service_descriptions.specs.declared.replay.machine.command.Command.{Command}
 pub use Rattle.service_descriptions.specs.declared.replay.machine.reply.Reply.{Reply}
 pub use Rattle.std.specs.Fmt.{decimal}
+pub use Rattle.std.specs.Global.{Vec}
 pub use Rattle.std.specs.List.{AllByRecursion, Contains, filter_map, flat_map, list_any}
 pub use Rattle.std.specs.Option.{option_map}

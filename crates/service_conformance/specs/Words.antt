@@ -49,8 +49,9 @@ AllowsWords (replies.Handle next) words =
     × (handle_words slot next.ticket ≡ words)
 AllowsWords (replies.List lists) words = ⊥
 
--- these are the replies, by their words, with which the steps lead to a service
-abbrev pub ArePossibleWords : (Reply → Service → Type 0) → PossibleReplies → Type 0
-ArePossibleWords Step p =
-    (words : List ℕ)
-    → AllowsWords p words ↔ ((r : Reply) × (text_of r ≡ words) × CanServe Step r)
+-- These are the replies, by their words, with which the steps lead to a service. Where it is one
+-- alone, it is that reply itself: two of other commands may have the same words.
+pub record ArePossibleWords (Step : Reply → Service → Type 0) (p : PossibleReplies) : Type 0 where
+  pub by_words : (words : List ℕ)
+      → AllowsWords p words ↔ ((r : Reply) × (text_of r ≡ words) × CanServe Step r)
+  pub itself : (r : Reply) → p ≡ replies.One r → CanServe Step r

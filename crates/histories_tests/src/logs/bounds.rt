@@ -29,6 +29,37 @@ fn at_most_64_calls_are_open(rt: HostRuntime) -> Result<(), Fail> {
     Ok(())
 }
 
+/// Queries, of which the pattern lacks the role of the last one.
+static QUERIES: [&str; 4] = ["nodes", "list listener", "count notifier", "list reader"];
+
+/// A log with so many calls of each query that have no reply, in which a node is registered with
+/// this reply.
+fn open_queries(alloc: Global, count: usize, reply: &str) -> Result<String, AllocError> {
+    let mut log = String::from_str(alloc, "service event 7 3 2 2\n")?;
+    for caller in 0..count {
+        for (kind, query) in QUERIES.iter().enumerate() {
+            writeln!(log, "c{caller}q{kind}> {query}")?;
+        }
+    }
+    writeln!(log, "a> register 1.0.0.1\na< {reply}")?;
+    Ok(log)
+}
+
+#[test]
+fn queries_without_a_reply_lead_to_one_configuration(rt: HostRuntime) -> Result<(), Fail> {
+    for (reply, wanted) in [
+        ("handle 0 0", Said::Conforms(61, 1)),
+        ("handle 0 1", Said::Refused(63, 2, 1)),
+    ] {
+        let log = open_queries(rt.alloc(), 15, reply)?;
+        assert_eq!(rt;
+            (reply, verdict_on(rt.alloc(), log.as_bytes())?),
+            (reply, wanted)
+        );
+    }
+    Ok(())
+}
+
 /// A log of 14 nodes, of which so many die while another one is registered: its reply does not say
 /// which had died before, so it leads to a configuration for each set of them.
 pub(super) fn deaths(alloc: Global, count: usize) -> Result<String, AllocError> {

@@ -33,7 +33,7 @@ fn need(rt: &(impl Abort + AllocGlobal), front: &str, rows: &[Row]) -> Result<()
     Ok(())
 }
 
-static NEEDED: [Row; 9] = [
+static NEEDED: [Row; 11] = [
     (
         "nodes\n= list 1000000000000000000000001 2000000000000000000000002\n",
         &[],
@@ -44,6 +44,16 @@ static NEEDED: [Row; 9] = [
     (
         "A> register 3.0.0.3\nB> nodes\nB< list 1000000000000000000000001 2000000000000000000000002\nderegister 9\n= no-handle\nB> register 4.0.0.4\nB< handle 2 2\nA< handle 2 2\n",
         &[6, 11],
+    ),
+    // So does a query without a reply, down to the line that decides or at all.
+    (
+        "A> register 3.0.0.3\nB> nodes\nC> list listener\nD> count notifier\nE> nodes\nA< handle 2 2\nF> register 4.0.0.4\nF< handle 2 2\nB< list 1000000000000000000000001 2000000000000000000000002\nC< list\nD< count 0\n",
+        &[6, 12],
+    ),
+    // It is needed where its reply is the refused one.
+    (
+        "B> nodes\nC> nodes\nA> register 3.0.0.3\nA< handle 2 2\nB< list 1000000000000000000000001\n",
+        &[6, 8],
     ),
     // That they change nothing may be seen only below.
     (

@@ -8,7 +8,7 @@ ghost use Rattle.iox2_container.specs.declared.container.registry.ReleaseState.{
 ghost use Rattle.iox2_dynamic.specs.Details.{node_of};
 ghost use Rattle.iox2_dynamic.specs.Service.{entries_of_node};
 ghost use Rattle.service_conformance.specs.Dead.{stays, without_node, without_ports};
-ghost use Rattle.service_conformance.specs.Entries.{MayGive, Refuses, StandsAt, slot_entry};
+ghost use Rattle.service_conformance.specs.Entries.{CanList, MayGive, Refuses, StandsAt, slot_entry};
 ghost use Rattle.service_conformance.specs.Given.{Becomes, IsBefore, IsUnused, MayStand, StandsLast};
 ghost use Rattle.service_conformance.specs.Given.{UsedSo};
 ghost use Rattle.service_conformance.specs.Entries.{entries_hash};
@@ -132,6 +132,14 @@ impl<T: Copy> RegistryCheck<T> {
         ensures { result ≡ length self.now.entries }
     {
         self.entries.len()
+    }
+
+    /// A list may have the details of its entries. None is made: a proof alone looks at it.
+    #[inline(always)]
+    pub(super) fn can_list(&self)
+        ensures { CanList self.now }
+    {
+        let _entries = &self.entries;
     }
 
     /// How many slots there are. They are numbered from 0.

@@ -1,7 +1,7 @@
 //! Commands as they were called.
 ghost use Rattle.std.specs.Prelude.{◌≡◌};
 ghost use Rattle.service_conformance.specs.Calls.{request_command, request_handle};
-ghost use Rattle.service_conformance.specs.Calls.{at_first, command_adds, handle_for};
+ghost use Rattle.service_conformance.specs.Calls.{at_first, command_adds, handle_for, is_query};
 ghost use Rattle.service_descriptions.specs.Lines.{command_of};
 
 use iox2_container::container::{ContainerHandle, Role};
@@ -60,6 +60,17 @@ impl Request {
             Request::Register(_) => Some(Role::Node),
             Request::Add(port) => Some(port.details().role()),
             _ => None,
+        }
+    }
+
+    /// Whether the command is a query, which changes nothing.
+    #[inline(always)]
+    pub(super) fn is_query(&self) -> bool
+        ensures { result ≡ is_query (request_command self.now) }
+    {
+        match self {
+            Request::Nodes | Request::List(_) | Request::Count(_) => true,
+            _ => false,
         }
     }
 }

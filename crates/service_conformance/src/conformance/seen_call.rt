@@ -218,13 +218,23 @@ impl SeenCall {
         Ok(Left::One(self.state_after(alloc, state, &reply)?))
     }
 
+    /// Whether the call is a query whose reply was not seen. Such a call can be made in each state:
+    /// no list is made to find that out.
+    #[inline(always)]
+    fn is_open_query(&self, state: &ServiceCheck) -> bool
+        ensures { IsTrue result → self.now.words ≡ None → IsIdleCall self.now state.now }
+    {
+        state.answers_queries();
+        self.request.is_query()
+    }
+
     /// Whether the call can be made in this state, and changes nothing in whatever state it is
     /// made. A no says nothing.
     pub(super) fn is_idle(&self, alloc: Global, state: &ServiceCheck) -> bool
         ensures { IsTrue result → IsIdleCall self.now state.now }
     {
         let Some(seen) = self.seen() else {
-            return false;
+            return self.is_open_query(state);
         };
         if !changes_nothing(seen) {
             return false;
@@ -251,13 +261,14 @@ impl SeenCall {
         state.reply_seen(possible, seen).is_none()
     }
 
-    /// Whether the reply that was seen says that nothing changed. Such a call changes nothing, in
-    /// whatever state it is made. A no says nothing.
+    /// Whether the reply that was seen says that nothing changed, or the call is a query whose
+    /// reply was not seen. Such a call changes nothing, in whatever state it is made. A no says
+    /// nothing.
     pub fn changes_nothing(&self) -> bool
         ensures { IsTrue result → ChangesNothing self.now }
     {
         let Some(seen) = &self.seen else {
-            return false;
+            return self.request.is_query();
         };
         changes_nothing(seen)
     }

@@ -1,19 +1,20 @@
 //! The replies that a command may have, and who is there.
 ghost use Rattle.std.specs.Option.{option_map};
-ghost use Rattle.std.specs.Prelude.{◌≡◌, ◌++◌, ◌<◌, IfNone, IfOk, IfSome, map};
+ghost use Rattle.std.specs.Prelude.{◌≡◌, ◌++◌, ◌<◌, IfNone, IfOk, IfSome, List, Option, map, true};
 ghost use Rattle.iox2_container.specs.State.{Handle};
 ghost use Rattle.iox2_container.specs.Steps.{listed};
 ghost use Rattle.iox2_dynamic.specs.Service.{IsService};
 ghost use Rattle.service_conformance.specs.Looks.{ids_in};
 ghost use Rattle.service_conformance.specs.Possible.{ArePossible, MayGiveIn, reply_in};
 ghost use Rattle.service_conformance.specs.Quiet.{Reports, quiet};
-ghost use Rattle.service_conformance.specs.Calls.{ServesRequest};
+ghost use Rattle.service_conformance.specs.Calls.{ServesRequest, CanAsk, is_query};
 ghost use Rattle.service_conformance.specs.Seen.{seen_text};
 ghost use Rattle.service_conformance.specs.Words.{ArePossibleWords, IsNextIn, ReadsReply, ReadsReplyHandle, handle_words};
 ghost use Rattle.service_descriptions.specs.Steps.{ServesDead, ServesCount, ServesList};
 ghost use Rattle.service_descriptions.specs.Steps.{ServesNodes, ServesAdd, ServesDeregister};
 ghost use Rattle.service_descriptions.specs.Steps.{ServesRegister, ServesRelease};
 ghost use Rattle.service_descriptions.specs.declared.replay.machine.command.Cleanup.TheVariants as cleanup;
+ghost use Rattle.service_descriptions.specs.declared.replay.machine.command.Command.{Command};
 
 use super::super::line_reply::{LineReply, reply_of_owners};
 use super::super::possible::{NextHandle, Part, Possible, PossibleReplies, possible_add};
@@ -168,6 +169,19 @@ impl ServiceCheck {
             Request::Count(role) => Ok(self.possible_count(*role)),
             Request::Dead(dead, kept) => Ok(self.possible_dead(dead, kept)),
         }
+    }
+
+    /// Each query has a reply now, which changes nothing.
+    #[inline(always)]
+    pub(in super::super) fn answers_queries(&self)
+        ensures asked { (c : Command) (handles : List (Option Handle)) → is_query c ≡ true
+            → CanAsk self.now handles c }
+        ensures kept { IsService self.now }
+        ensures rest { quiet self.now ≡ self.now }
+    {
+        self.nodes.can_list();
+        self.first.can_list();
+        self.second.can_list();
     }
 
     /// How many slots the registry of the part has.

@@ -1,4 +1,4 @@
-use Rattle.service_conformance.specs.Calls.{seen_as}
+use Rattle.service_conformance.proofs.Names.{seen_as}
 use Rattle.service_conformance.proofs.Calls.{replies_found}
 use Rattle.service_conformance.proofs.conformance.seen_call.SeenCall.replies.Goals as goal
 
