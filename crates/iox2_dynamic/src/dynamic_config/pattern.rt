@@ -19,6 +19,7 @@ use super::port_registry::{append_details_of, details, list_details, recover_por
 use super::publish_subscribe::DynamicConfig as PublishSubscribePorts;
 use super::request_response::DynamicConfig as RequestResponsePorts;
 use super::settings::MessagingPatternSettings;
+use iox2_config::hash::PatternKind;
 use iox2_container::container::{
     ContainerHandle, ContainerRemoveError, ListContainer, Registry, ReleaseMode, ReleaseState, Role,
 };
@@ -328,44 +329,29 @@ impl MessagingPattern {
         ensures ports { IfOk result (λ p.
             ports_of p ≡ fresh_ports (capacities_in settings.now) service_number tickets) }
     {
-        match settings {
-            MessagingPatternSettings::RequestResponse(s) => Ok(MessagingPattern::RequestResponse(
-                PortRegistries::with_capacities(
-                    alloc,
-                    service_number,
-                    s.number_of_servers,
-                    s.number_of_clients,
-                    tickets,
-                )?,
-            )),
-            MessagingPatternSettings::PublishSubscribe(s) => Ok(
-                MessagingPattern::PublishSubscribe(PortRegistries::with_capacities(
-                    alloc,
-                    service_number,
-                    s.number_of_publishers,
-                    s.number_of_subscribers,
-                    tickets,
-                )?),
+        let (kind, first, second) = settings.capacities();
+        Ok(match kind {
+            PatternKind::RequestResponse => MessagingPattern::RequestResponse(
+                PortRegistries::with_capacities(alloc, service_number, first, second, tickets)?,
             ),
-            MessagingPatternSettings::Event(s) => Ok(MessagingPattern::Event(
-                PortRegistries::with_capacities(
-                    alloc,
-                    service_number,
-                    s.number_of_listeners,
-                    s.number_of_notifiers,
-                    tickets,
-                )?,
-            )),
-            MessagingPatternSettings::Blackboard(s) => Ok(MessagingPattern::Blackboard(
-                PortRegistries::with_capacities(
-                    alloc,
-                    service_number,
-                    s.number_of_readers,
-                    s.number_of_writers,
-                    tickets,
-                )?,
-            )),
-        }
+            PatternKind::PublishSubscribe => MessagingPattern::PublishSubscribe(
+                PortRegistries::with_capacities(alloc, service_number, first, second, tickets)?,
+            ),
+            PatternKind::Event => MessagingPattern::Event(PortRegistries::with_capacities(
+                alloc,
+                service_number,
+                first,
+                second,
+                tickets,
+            )?),
+            PatternKind::Blackboard => MessagingPattern::Blackboard(PortRegistries::with_capacities(
+                alloc,
+                service_number,
+                first,
+                second,
+                tickets,
+            )?),
+        })
     }
 
     /// Whether some port has the node.

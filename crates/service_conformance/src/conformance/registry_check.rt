@@ -5,8 +5,6 @@ ghost use Rattle.iox2_container.specs.State.{fresh, IsRegistry, RegistryState, H
 ghost use Rattle.iox2_container.specs.Steps.{AddStep, HasEntry, IsUnknownHandle, RemoveStep, TakesEntry};
 ghost use Rattle.iox2_container.specs.Steps.{entries_of, is_of, listed, lock_after};
 ghost use Rattle.iox2_container.specs.declared.container.registry.ReleaseState.{ReleaseState};
-ghost use Rattle.iox2_dynamic.specs.Details.{node_of};
-ghost use Rattle.iox2_dynamic.specs.Service.{entries_of_node};
 ghost use Rattle.service_conformance.specs.Dead.{stays, without_node, without_ports};
 ghost use Rattle.service_conformance.specs.Entries.{CanList, MayGive, Refuses, StandsAt, slot_entry};
 ghost use Rattle.service_conformance.specs.Given.{Becomes, IsBefore, IsUnused, MayStand, StandsLast};
@@ -19,7 +17,9 @@ use super::same::{Same, are_same};
 use super::slot_entry::{
     SlotEntry, details_of, entries_hash, free_position, position_with, slots_of,
 };
-use iox2_container::container::{ContainerAddFailure, ContainerHandle, ReleaseMode, Role};
+use iox2_container::container::{
+    Attached, ContainerAddFailure, ContainerHandle, ReleaseMode, Role,
+};
 use iox2_dynamic::dynamic_config::PortDetails;
 use iox2_ids::identifiers::UniqueNodeId;
 use std::alloc::{AllocError, Global};
@@ -348,14 +348,16 @@ impl<T: Copy + Same> RegistryCheck<T> {
     }
 }
 
-impl RegistryCheck<UniqueNodeId> {
+impl<T: Copy + Attached> RegistryCheck<T> {
     /// How many entries the node has.
     pub(super) fn count(&self, node: &UniqueNodeId) -> usize
-        ensures { result ≡ entries_of_node node.now self.now }
+        ensures { result ≡ entries_of T.node node.now self.now }
     {
         self.entries.iter().filter(|e| e.is_of(node)).count()
     }
+}
 
+impl RegistryCheck<UniqueNodeId> {
     /// How many entries other nodes have.
     fn others(&self, node: &UniqueNodeId) -> usize
         ensures { result ≡ length
@@ -389,13 +391,6 @@ impl RegistryCheck<UniqueNodeId> {
 }
 
 impl RegistryCheck<PortDetails> {
-    /// How many ports the node has.
-    pub(super) fn count(&self, node: &UniqueNodeId) -> usize
-        ensures { result ≡ entries_of node_of node.now self.now }
-    {
-        self.entries.iter().filter(|e| e.is_of(node)).count()
-    }
-
     /// Whether a port of the dead node is left, where those of these values stay.
     pub(super) fn has_left(&self, dead: &UniqueNodeId, kept: &[u128]) -> bool
         ensures { result ≡ list_any (λ e. stays dead.now kept.now e.details)

@@ -1,8 +1,6 @@
 //! Whether a reply says what was seen.
-ghost use Rattle.std.specs.Prelude.{◌≡◌, ◌↔◌, ◌<◌, ℕ, IsTrue, List, map};
+ghost use Rattle.std.specs.Prelude.{◌≡◌, ◌↔◌, ◌<◌, IsTrue, List, map};
 ghost use Rattle.std.specs.List.{flat_map};
-ghost use Rattle.iox2_dynamic.specs.Details.{port_of};
-ghost use Rattle.iox2_ids.specs.PortId.{port_value};
 ghost use Rattle.service_conformance.specs.Possible.{reply_in};
 ghost use Rattle.service_conformance.specs.Seen.{count_words, list_words, seen_text, word_text};
 ghost use Rattle.service_conformance.specs.Words.{handle_words};
@@ -10,42 +8,16 @@ ghost use Rattle.service_descriptions.specs.Replies.{id_word, text_of};
 
 use super::line_reply::{LineReply, given};
 use super::seen_reply::{ReplyWord, SeenReply};
-use iox2_dynamic::dynamic_config::PortDetails;
-use iox2_ids::identifiers::UniqueNodeId;
-
-/// What a list prints the id of.
-pub(super) trait Printed {
-    /// The number of its id.
-    ghost id: { Self → ℕ };
-
-    /// The number of its id.
-    fn printed(&self) -> u128
-        ensures { result ≡ id self.now };
-}
-
-impl Printed for UniqueNodeId {
-    ghost id = { λ n. n };
-
-    fn printed(&self) -> u128 {
-        self.value()
-    }
-}
-
-impl Printed for PortDetails {
-    ghost id = { λ d. port_value (port_of d) };
-
-    fn printed(&self) -> u128 {
-        self.port_id().value()
-    }
-}
+use iox2_container::container::Attached;
 
 /// Whether these are the ids that are printed of the items.
-fn are_ids<T: Printed>(items: &[T], ids: &[u128]) -> bool
-    ensures { IsTrue result ↔ (flat_map id_word (map T.id items.now) ≡ flat_map id_word ids.now) }
+fn are_ids<T: Attached>(items: &[T], ids: &[u128]) -> bool
+    ensures { IsTrue result
+        ↔ (flat_map id_word (map T.number items.now) ≡ flat_map id_word ids.now) }
 {
     let mut at = 0;
     while at < items.len() && at < ids.len() {
-        let (one, other) = (items[at].printed(), ids[at]);
+        let (one, other) = (items[at].key(), ids[at]);
         if one != other {
             return false;
         }

@@ -67,35 +67,6 @@ fn has_left_in(
     first.has_left(dead, kept) || second.has_left(dead, kept)
 }
 
-/// The pattern, and how many first and second ports there may be.
-fn capacities_in(settings: &MessagingPatternSettings) -> (PatternKind, usize, usize)
-    ensures { capacities_in settings.now ≡
-        record { pattern = result.0; first = result.1; second = result.2 } }
-{
-    match settings {
-        MessagingPatternSettings::PublishSubscribe(s) => (
-            PatternKind::PublishSubscribe,
-            s.number_of_publishers,
-            s.number_of_subscribers,
-        ),
-        MessagingPatternSettings::Event(s) => (
-            PatternKind::Event,
-            s.number_of_listeners,
-            s.number_of_notifiers,
-        ),
-        MessagingPatternSettings::RequestResponse(s) => (
-            PatternKind::RequestResponse,
-            s.number_of_servers,
-            s.number_of_clients,
-        ),
-        MessagingPatternSettings::Blackboard(s) => (
-            PatternKind::Blackboard,
-            s.number_of_readers,
-            s.number_of_writers,
-        ),
-    }
-}
-
 impl ServiceCheck {
     /// A new service.
     #[tactic(auto, using(iox2_dynamic::proofs::Keeping::fresh_is_service))]
@@ -110,7 +81,7 @@ impl ServiceCheck {
         ensures kept { IsService result }
         ensures rest { quiet result ≡ result }
     {
-        let (pattern, first, second) = capacities_in(settings);
+        let (pattern, first, second) = settings.capacities();
         let roles = pattern.port_roles();
         ServiceCheck {
             pattern,

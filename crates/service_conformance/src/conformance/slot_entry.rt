@@ -2,11 +2,11 @@
 ghost use Rattle.std.specs.Prelude.{◌≡◌, ◌≢◌, ◌<◌, All, AllPairs, IfNone, IfSome};
 ghost use Rattle.std.specs.Prelude.{◌↔◌, IfOk, IsTrue, map};
 ghost use Rattle.iox2_container.specs.Steps.{is_of};
-ghost use Rattle.iox2_dynamic.specs.Details.{node_of};
 ghost use Rattle.service_conformance.specs.Dead.{goes, is_kept, stays};
 ghost use Rattle.service_conformance.specs.Entries.{HasAt, IsAt, IsFreePosition, entries_hash};
 
 use super::same::Same;
+use iox2_container::container::Attached;
 use iox2_dynamic::dynamic_config::PortDetails;
 use iox2_ids::identifiers::UniqueNodeId;
 use std::alloc::{AllocError, Global};
@@ -120,28 +120,21 @@ pub(super) fn slots_of<T: Copy>(
     Ok(list)
 }
 
-impl SlotEntry<UniqueNodeId> {
+impl<T: Copy + Attached> SlotEntry<T> {
     /// Whether it is an entry of the node.
     pub(super) fn is_of(&self, node: &UniqueNodeId) -> bool
-        ensures { result ≡ is_of (λ i. i) node.now self.now.details }
+        ensures { result ≡ is_of T.node node.now self.now.details }
     {
-        self.details == *node
+        self.details.node_id() == *node
     }
 }
 
 impl SlotEntry<PortDetails> {
-    /// Whether it is a port of the node.
-    pub(super) fn is_of(&self, node: &UniqueNodeId) -> bool
-        ensures { result ≡ is_of node_of node.now self.now.details }
-    {
-        self.details.node_id() == *node
-    }
-
     /// Whether its port has one of these values.
     fn is_kept(&self, kept: &[u128]) -> bool
         ensures { result ≡ is_kept kept.now self.now.details }
     {
-        kept.contains(&self.details.port_id().value())
+        kept.contains(&self.details.key())
     }
 
     /// Whether it is a port of the dead node that stays.

@@ -19,21 +19,21 @@ ghost use Rattle.service_descriptions.specs.declared.replay.machine.command.Comm
 use super::super::line_reply::{LineReply, reply_of_owners};
 use super::super::possible::{NextHandle, Part, Possible, PossibleReplies, possible_add};
 use super::super::request::Request;
-use super::super::says::{Printed, says};
+use super::super::says::says;
 use super::super::seen_reply::{ReplyWord, SeenReply};
 use super::ServiceCheck;
-use iox2_container::container::{ContainerHandle, Role};
+use iox2_container::container::{Attached, ContainerHandle, Role};
 use iox2_dynamic::dynamic_config::{PortDetails, PortRoles};
 use iox2_ids::identifiers::UniqueNodeId;
 use std::alloc::{AllocError, Global};
 
 /// The ids that are printed of the items.
-fn ids_of<T: Printed>(alloc: Global, items: &[T]) -> Result<Vec<u128>, AllocError>
-    ensures { IfOk result (λ ids. ids.items ≡ map T.id items.now) }
+fn ids_of<T: Attached>(alloc: Global, items: &[T]) -> Result<Vec<u128>, AllocError>
+    ensures { IfOk result (λ ids. ids.items ≡ map T.number items.now) }
 {
     let mut ids = Vec::with_capacity(alloc, items.len())?;
     for item in items {
-        ids.push(item.printed())?;
+        ids.push(item.key())?;
     }
     Ok(ids)
 }

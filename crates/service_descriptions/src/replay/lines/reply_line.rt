@@ -1,12 +1,10 @@
 //! The lines of replies, and of what answers commands. A list that answers a command is written as
 //! the slots of its items are met.
-ghost use Rattle.std.specs.Prelude.{◌≡◌, ◌+◌, ◌≤◌, ◌++◌, ◌∷◌, [], ℕ, OnErr, OnOk};
+ghost use Rattle.std.specs.Prelude.{◌≡◌, ◌+◌, ◌≤◌, ◌++◌, ◌∷◌, [], OnErr, OnOk};
 ghost use Rattle.std.specs.Prelude.{codes, decimal, drop, length, take, vec_len};
 ghost use Rattle.std.specs.List.{flat_map};
 ghost use Rattle.iox2_container.specs.Steps.{listed};
-ghost use Rattle.iox2_dynamic.specs.Details.{port_of};
 ghost use Rattle.iox2_dynamic.specs.Ports.{ports_as};
-ghost use Rattle.iox2_ids.specs.PortId.{port_value};
 ghost use Rattle.iox2_texts.specs.VerifyErrors.{verification_error_text};
 ghost use Rattle.service_descriptions.specs.LineAnswers.{PutsText, PutsWord, WritesLine};
 ghost use Rattle.service_descriptions.specs.LineAnswers.{kind_text, ports_text};
@@ -15,10 +13,8 @@ ghost use Rattle.service_descriptions.specs.declared.replay.machine.reply.LineAn
 
 use crate::replay::machine::{LineAnswer, LineReply, Reply};
 use iox2_config::hash::PatternKind;
-use iox2_container::container::Role;
-use iox2_dynamic::dynamic_config::{
-    DynamicConfig, PortDetails, PortKind, PortRegistries, PortRoles,
-};
+use iox2_container::container::{Attached, Role};
+use iox2_dynamic::dynamic_config::{DynamicConfig, PortKind, PortRegistries, PortRoles};
 use iox2_ids::identifiers::{Hexadecimal, UniqueNodeId};
 use iox2_texts::attribute::AttributeVerificationError;
 use iox2_texts::bounded::CallbackProgression;
@@ -80,41 +76,15 @@ fn append_id(id: u128, out: &mut Vec<u8>) -> Result<(), AllocError>
     out.extend_from_slice(text.as_bytes())
 }
 
-/// What can be listed: a node or a port.
-trait Item {
-    /// The number of its id.
-    ghost id: { Self → ℕ };
-
-    /// The number of its id.
-    fn id(&self) -> u128
-        ensures { result ≡ id self.now };
-}
-
-impl Item for UniqueNodeId {
-    ghost id = { λ node. node };
-
-    fn id(&self) -> u128 {
-        self.value()
-    }
-}
-
-impl Item for PortDetails {
-    ghost id = { λ port. port_value (port_of port) };
-
-    fn id(&self) -> u128 {
-        self.port_id().value()
-    }
-}
-
 /// Appends the line of a list of nodes or of ports.
-fn append_ids<T: Item>(items: &[T], out: &mut Vec<u8>) -> Result<(), AllocError>
+fn append_ids<T: Attached>(items: &[T], out: &mut Vec<u8>) -> Result<(), AllocError>
     ensures ok { OnOk result (out.new.items ≡ out.old.items
-        ++ (codes "list" ++ flat_map (λ item. id_word (T.id item)) items.now ++ 10 ∷ [])) }
+        ++ (codes "list" ++ flat_map (λ item. id_word (T.number item)) items.now ++ 10 ∷ [])) }
     ensures err { OnErr result (take (vec_len out.old) out.new.items ≡ out.old.items) }
 {
     out.extend_from_slice(b"list")?;
     for item in items {
-        append_id(item.id(), out)?;
+        append_id(item.key(), out)?;
     }
     out.extend_from_slice(b"\n")
 }

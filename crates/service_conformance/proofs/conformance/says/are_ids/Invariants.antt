@@ -7,8 +7,8 @@ abbrev pub invariant-loop-at : goal.invariant-loop-at
 invariant-loop-at g l = record {
   items : l.at ≤ length l.items;
   ids : l.at ≤ length l.ids;
-  same : (flat_map id_word (map g.T.Printed.id l.items) ≡ flat_map id_word l.ids)
-      ↔ AreAlike g.T.Printed.id l.items l.ids l.at;
+  same : (flat_map id_word (map g.T.Attached.number l.items) ≡ flat_map id_word l.ids)
+      ↔ AreAlike g.T.Attached.number l.items l.ids l.at;
 }
 
 abbrev pub decreases-loop-at : goal.decreases-loop-at

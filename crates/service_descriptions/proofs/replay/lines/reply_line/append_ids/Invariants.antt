@@ -4,4 +4,5 @@ use Rattle.service_descriptions.proofs.replay.lines.reply_line.append_ids.Given 
 
 abbrev pub invariant-loop-item : goal.invariant-loop-item
 invariant-loop-item g l = l.out.items ≡ l.fn.out.items
-    ++ (codes "list" ++ flat_map (λ item. id_word (g.T.Item.id item)) (take l.item-index l.items))
+    ++ (codes "list"
+    ++ flat_map (λ item. id_word (g.T.Attached.number item)) (take l.item-index l.items))
