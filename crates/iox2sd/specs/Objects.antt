@@ -23,12 +23,13 @@ Called {M} form refuse Table (Some old) answer new =
     (made : M) × (answer ≡ form made) × (after : Held) × (new ≡ Some after) × Table old made after
 
 -- the same at an object that may be NULL, which is reported before all else. The object is sound
--- afterwards, and no other object has changed
+-- afterwards and points where it did, and no other object has changed
 abbrev pub At : {M R : Type 0} → (M → R) → (Status → M) → (Held → M → Held → Type 0)
     → List Service → R → List Service → Type 0
 At form refuse Table [] answer new = (answer ≡ form (refuse status.Null)) × (new ≡ [])
 At form refuse Table (object ∷ others) answer new =
     (left : Service) × (new ≡ left ∷ others) × IsSoundObject left
+    × (left.slot.at ≡ object.slot.at)
     × Called form refuse Table (held object) answer (held left)
 
 -- the answer to a question is what it says of the service that is held; where none is held, the

@@ -1,5 +1,5 @@
 -- Making and freeing services, and numbers for them.
-use Rattle.std.specs.Prelude.{◌≡◌, ℕ, Option, Some, None, List, [], ◌∷◌, Result, Ok, Err}
+use Rattle.std.specs.Prelude.{◌≡◌, ◌≢◌, ℕ, Option, Some, None, List, [], ◌∷◌, Result, Ok, Err}
 use Rattle.iox2_config.specs.Hashing.{ReadsPattern}
 use Rattle.iox2_config.specs.declared.hash.input.PatternKind.{PatternKind}
 use Rattle.iox2sd.specs.Prelude.{PatternCapacities, fresh_service, code, Status, NumberAnswer}
@@ -33,11 +33,12 @@ abbrev pub Makes : ℕ → ℕ → Capacities → ℕ → Option Held → Status
 Makes pattern number c tickets (Some old) s new = (s ≡ status.HasService) × (new ≡ Some old)
 Makes pattern number c tickets None s new = MakesNew pattern number c tickets s new
 
--- the same at an object that may be NULL
+-- the same at an object that may be NULL. One in which no service was made is as it was
 abbrev pub MakesAt : ℕ → ℕ → Capacities → ℕ → List Service → ℕ → List Service → Type 0
 MakesAt pattern number c tickets [] answer new = (answer ≡ code status.Null) × (new ≡ [])
 MakesAt pattern number c tickets (object ∷ others) answer new =
     (left : Service) × (new ≡ left ∷ others) × IsSoundObject left
+    × (answer ≢ code status.Done → left ≡ object)
     × Returns code (λ s. Makes pattern number c tickets (held object) s (held left)) answer
 
 -- freeing what is held, and reporting whether something was

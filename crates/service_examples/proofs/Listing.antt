@@ -1,7 +1,6 @@
 -- Lists that callbacks put members into.
-use Rattle.std.proofs.Common.{◌≡◌, ◌∙◌, ℕ, ◌+◌, Bool, true, false, [], ◌∷◌, ◌++◌, length, sym, ap, arith, inl, inr}
+use Rattle.std.proofs.Common.{◌≡◌, ◌∙◌, ℕ, Bool, true, false, [], ◌∷◌, sym, ap, inl, inr}
 use Rattle.std.specs.Global.{Vec}
-use Rattle.std.proofs.lemmas.List.{length-append}
 use Rattle.iox2_texts.specs.declared.bounded.CallbackProgression.{CallbackProgression}
 use Rattle.iox2_texts.specs.declared.bounded.CallbackProgression.TheVariants.{Continue}
 use Rattle.iox2_dynamic.proofs.Names.{Role, listed}
@@ -12,7 +11,7 @@ use Rattle.iox2_dynamic.specs.Ports.{ListsIn}
 use Rattle.iox2_dynamic.proofs.Rooms.{roles_differ}
 use Rattle.service_examples.specs.declared.discovery.Member.{Member}
 use Rattle.service_examples.specs.declared.discovery.Member.TheVariants.{Port}
-use Rattle.service_examples.specs.Members.{Appends, members_of, nodes_in, ports_in}
+use Rattle.service_examples.specs.Members.{Appends, ports_in}
 
 -- a callback that puts a member for each port of a role at the end of a list, and goes on
 module _ {F : Type 0} (calls : F → PortDetails → CallbackProgression → F → Type 0) (name : F → ℕ)
@@ -34,13 +33,3 @@ module _ {F : Type 0} (calls : F → PortDetails → CallbackProgression → F �
       let all =
       all_put calls name list_of Port step f (listed s.ports.second.registry) h shown.1 in
       (all.0, λ e. absurd (roles_differ s.pattern (sym e ∙ shown.0)), λ e. all.1)
-
-pub members_counted : (s : Service)
-    → length (members_of s)
-    ≡ length (nodes_in s) + (length (ports_in s.ports.first) + length (ports_in s.ports.second))
-members_counted s =
-    omega (
-      arith,
-      length-append (nodes_in s ++ ports_in s.ports.first) (ports_in s.ports.second),
-      length-append (nodes_in s) (ports_in s.ports.first),
-    )

@@ -1,5 +1,5 @@
 //! Discovery: who is attached to a service.
-ghost use Rattle.std.specs.Prelude.{◌≡◌, ◌+◌, ◌≤◌, ◌<◌, [], ◌∷◌, IfOk, OnOk, OnErr};
+ghost use Rattle.std.specs.Prelude.{◌≡◌, ◌+◌, ◌≤◌, ◌<◌, ◌^◌, [], ◌∷◌, IfOk, OnOk, OnErr};
 ghost use Rattle.std.specs.Prelude.{length, max, vec_capacity, vec_len};
 ghost use Rattle.iox2_dynamic.specs.Service.{first_role, second_role};
 ghost use Rattle.service_examples.specs.Members.{Appends, IsRoster, members_of, nodes_in, ports_in};
@@ -82,7 +82,8 @@ impl<T: Copy> Roster<T> {
 
 /// How many nodes and ports there are. Refused where no list can have so many.
 fn number_attached(service: &DynamicConfig) -> Result<usize, AllocError>
-    ensures { IfOk result (λ number. number ≡ length (members_of service.now)) }
+    ensures number { IfOk result (λ number. number ≡ length (members_of service.now)) }
+    ensures refused { OnErr result (2 ^ 64 ≤ length (members_of service.now)) }
 {
     let census = take_census(service);
     let ports = census.first.count.checked_add(census.second.count);

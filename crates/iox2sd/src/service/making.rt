@@ -1,5 +1,5 @@
 //! Making and freeing services.
-ghost use Rattle.std.specs.Prelude.{All};
+ghost use Rattle.std.specs.Prelude.{◌≡◌, ◌≢◌, All};
 ghost use Rattle.iox2sd.specs.Objects.{IsSoundObject, held};
 ghost use Rattle.iox2sd.specs.Services.{MakesAt, FreesAt, Makes, Frees};
 
@@ -34,6 +34,7 @@ fn make(
     ensures sound { IsSoundObject object.new }
     ensures made { Makes pattern number capacities tickets (held object.old) result
         (held object.new) }
+    ensures same { result ≢ Status.Done → object.new ≡ object.old }
 {
     if object.full {
         return Status::HasService;
