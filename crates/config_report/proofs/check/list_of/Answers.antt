@@ -29,7 +29,7 @@ returns c =
       grind (
         arith,
         append_assoc,
-        c.of.ensures,
+        c.of-positions.ensures,
         c.add_findings.ensures.text,
         c.add_findings-2.ensures.text,
       ),
