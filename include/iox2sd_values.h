@@ -278,14 +278,16 @@ const char *iox2sd_part_str(iox2sd_message_part part);
 IOX2SD_CHECKED iox2sd_status iox2sd_type_detail_check(const iox2sd_type_detail *detail);
 
 /* The layout of a message whose payload has so many elements. All parts lie in it, apart and
- * aligned, for the service and for every compatible opener. Names and variants are ignored.
+ * aligned, for the service and for every compatible opener. Call it on the service's details: those
+ * of an opener, with smaller alignments, give other offsets and smaller sizes. Names and variants
+ * are ignored.
  * Errors: IOX2SD_STATUS_NULL; IOX2SD_STATUS_BAD_ALIGNMENT; IOX2SD_STATUS_TOO_LARGE past 2^63 - 1
  * bytes. */
 IOX2SD_CHECKED iox2sd_layout_answer
 iox2sd_message_sample_layout(const iox2sd_message_details *details, size_t elements);
 
 /* The offsets of user header and payload in a message whose header is at the offset or address
- * `header`. Nothing is read there. Names and variants are ignored.
+ * `header`, by the service's details too. Nothing is read there. Names and variants are ignored.
  * Errors: IOX2SD_STATUS_NULL; IOX2SD_STATUS_BAD_ALIGNMENT; IOX2SD_STATUS_TOO_LARGE where the
  * payload's offset would pass 2^64 - 1. */
 IOX2SD_CHECKED iox2sd_places_answer iox2sd_message_places(const iox2sd_message_details *details,
