@@ -104,7 +104,8 @@ const char *iox2sd_status_str(iox2sd_status status) {
         case IOX2SD_STATUS_ILLEGAL_HASH: return "the hash text cannot be the name of a file";
         case IOX2SD_STATUS_BAD_REQUIRED_KEY: return "not a key of a required pair";
         case IOX2SD_STATUS_BAD_REQUIRED_VALUE: return "not a value of a required pair";
-        case IOX2SD_STATUS_BAD_ASKED_KEY: return "not a key that may be searched for";
+        case IOX2SD_STATUS_BAD_ASKED_KEY:
+            return "not a required key, nor one that may be searched for";
         case IOX2SD_STATUS_TOO_MANY_REQUIRED:
             return "more than sixteen pairs and keys are required";
         case IOX2SD_STATUS_MISSING_PAIR: return "a required pair is not in the set";
