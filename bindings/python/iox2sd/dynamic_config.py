@@ -33,14 +33,15 @@ class ContainerHandle(Checked):
     never reuses a handle.
     """
 
-    service_number: U64
+    service: U64
+    """The number of the service."""
     role: Role
     slot: Size
     ticket: U64
     """How many entries of its kind were made before it."""
 
     def _lent(self) -> _native.Handle:
-        return _native.Handle(self.service_number, self.role.value, self.slot, self.ticket)
+        return _native.Handle(self.service, self.role.value, self.slot, self.ticket)
 
     @classmethod
     def _of(cls, handle: _native.Handle) -> "ContainerHandle":

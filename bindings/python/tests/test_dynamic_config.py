@@ -170,6 +170,7 @@ class Nodes(TestCase):
             first, second = made.register_node_id(NODE), made.register_node_id(OTHER)
             self.assertEqual(first, ContainerHandle(7, Role.NODE, 0, 0))
             self.assertEqual(second, ContainerHandle(7, Role.NODE, 1, 1))
+            self.assertEqual((second.service, second.slot), (made.service_number, 1))
             self.assertEqual((made.node(first), made.node(second)), (NODE, OTHER))
             self.assertEqual(made.list_node_ids(), (NODE, OTHER))
             self.assertEqual((made.number_of_nodes, made.max_nodes), (2, 2))
