@@ -118,7 +118,7 @@ enum iox2sd_status_number {
     IOX2SD_STATUS_ILLEGAL_HASH = 49,
     IOX2SD_STATUS_BAD_REQUIRED_KEY = 50,   /* The key of a required pair is invalid. */
     IOX2SD_STATUS_BAD_REQUIRED_VALUE = 51, /* The value of a required pair is invalid. */
-    /* A key is invalid that is required, with any value, or whose values are asked for. */
+    /* A key is invalid that is required, with any value, or whose values are searched for. */
     IOX2SD_STATUS_BAD_ASKED_KEY = 52,
     IOX2SD_STATUS_TOO_MANY_REQUIRED = 53, /* More than sixteen pairs and keys are required. */
     IOX2SD_STATUS_MISSING_PAIR = 54,      /* A required pair is not in the set. */
