@@ -48,7 +48,7 @@ int main(void) {
     if (!IOX2SD_SUCCEEDED(made.status) ||
         !IOX2SD_SUCCEEDED(iox2sd_service_create_of_description(&service, 7, &described)))
         return 1;
-    const iox2sd_offer offer = {&described, &red, 1, &types, NULL};
+    const iox2sd_offer offer = {&described, &red, 1, &types, NULL, NULL};
     iox2sd_message_details wider = types;
     iox2sd_description more = described;
     wider.payload.alignment = 16;

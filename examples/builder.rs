@@ -23,7 +23,9 @@ fn open(
     (required, attributes): (publish_subscribe::StaticConfig, &AttributeVerifier),
 ) -> Result<(usize, usize), Box<dyn Error>> {
     description.verify_opener(&Required::PublishSubscribe(required), attributes)?;
-    let message = required.message_type_details.sample_layout(1000)?;
+    // The service's types say where the parts of a message lie, and not those of the opener.
+    let types = &description.publish_subscribe().message_type_details;
+    let message = types.sample_layout(1000)?;
     let node = UniqueNodeId::new(2, 0, 0, 1).ok_or("the id of no node")?;
     Ok((service.register_node_id(node)?.slot(), message.size()))
 }

@@ -1,4 +1,5 @@
 #include "iox2sd_config.h"
+#include <inttypes.h>
 #include <stdio.h>
 
 /* A node joins an event service with the number 7 and the capacities of iceoryx2.toml (of less than
@@ -19,7 +20,7 @@ static iox2sd_status join_and_leave(iox2sd_service *service) {
     if (!IOX2SD_SUCCEEDED(made)) return made;
     iox2sd_handle_answer node = iox2sd_register_node_id(service, (iox2sd_id){1, 0, 0, 1});
     if (!IOX2SD_SUCCEEDED(node.status)) return node.status;
-    printf("slot %zu of service %u\n", node.handle.slot, (unsigned)node.handle.service);
+    printf("slot %zu of service %" PRIu64 "\n", node.handle.slot, node.handle.service);
     return iox2sd_deregister_node_id(service, node.handle);
 }
 

@@ -11,17 +11,21 @@
 
 #include <stdio.h>
 
-static void remove_dead(iox2sd_service *service, iox2sd_id dead, const iox2sd_port_id *kept,
+// Whether the calls succeeded.
+static bool remove_dead(iox2sd_service *service, iox2sd_id dead, const iox2sd_port_id *kept,
                         size_t kept_count) {
+    iox2sd_port_details ports[8];  // As many as the service may have, four of each role.
     const iox2sd_dead_node_removal gone =
         iox2sd_remove_dead_node_id(service, dead, kept, kept_count);
-    iox2sd_port_details ports[4];
-    const iox2sd_count_answer left = iox2sd_ports_of(service, dead, ports, 4);
+    if (!IOX2SD_SUCCEEDED(gone.status)) return false;
+    const iox2sd_count_answer left = iox2sd_ports_of(service, dead, ports, 8);
+    if (!IOX2SD_SUCCEEDED(left.status)) return false;
     printf("dead node %u: %zu publishers, %zu subscribers removed, %s\n", (unsigned)dead.counter,
            gone.first, gone.second,
            gone.status == IOX2SD_STATUS_DONE_LOCKED ? "the service is locked" : "nodes are left");
     for (size_t i = 0; i < left.count; i++)
         printf("  kept: %s %u\n", iox2sd_role_str(ports[i].role), (unsigned)ports[i].port.counter);
+    return true;
 }
 
 int main(void) {
@@ -39,9 +43,9 @@ int main(void) {
         return 1;
     for (size_t i = 0; i < 3; i++)
         if (!IOX2SD_SUCCEEDED(iox2sd_attach(&service, &ports[i]).status)) return 1;
-    remove_dead(&service, camera, &read, 1);
-    remove_dead(&service, camera, NULL, 0);
-    remove_dead(&service, lidar, NULL, 0);
+    if (!remove_dead(&service, camera, &read, 1) || !remove_dead(&service, camera, NULL, 0) ||
+        !remove_dead(&service, lidar, NULL, 0))
+        return 1;
     printf("a late node: %s\n",
            iox2sd_status_str(iox2sd_register_node_id(&service, camera).status));
     return IOX2SD_SUCCEEDED(iox2sd_service_free(&service)) ? 0 : 1;

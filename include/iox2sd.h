@@ -116,13 +116,14 @@ enum iox2sd_status_number {
     IOX2SD_STATUS_BAD_ENTRY = 48,
     /* SHA-1, which all calls use, is proved to make no such text. */
     IOX2SD_STATUS_ILLEGAL_HASH = 49,
-    IOX2SD_STATUS_BAD_REQUIRED_KEY = 50,
-    IOX2SD_STATUS_BAD_REQUIRED_VALUE = 51,
+    IOX2SD_STATUS_BAD_REQUIRED_KEY = 50,   /* The key of a required pair is invalid. */
+    IOX2SD_STATUS_BAD_REQUIRED_VALUE = 51, /* The value of a required pair is invalid. */
+    /* A key is invalid that is required, with any value, or whose values are searched for. */
     IOX2SD_STATUS_BAD_ASKED_KEY = 52,
-    IOX2SD_STATUS_TOO_MANY_REQUIRED = 53,
-    IOX2SD_STATUS_MISSING_PAIR = 54,
-    IOX2SD_STATUS_MISSING_KEY = 55,
-    IOX2SD_STATUS_NO_SUCH_VALUE = 56,
+    IOX2SD_STATUS_TOO_MANY_REQUIRED = 53, /* More than sixteen pairs and keys are required. */
+    IOX2SD_STATUS_MISSING_PAIR = 54,      /* A required pair is not in the set. */
+    IOX2SD_STATUS_MISSING_KEY = 55,       /* No pair of the set has a required key. */
+    IOX2SD_STATUS_NO_SUCH_VALUE = 56,     /* The key has fewer values. */
     IOX2SD_STATUS_BAD_ALIGNMENT = 57, /* An alignment is no power of two. */
     IOX2SD_STATUS_TOO_LARGE = 58,     /* The result would pass its range. */
     IOX2SD_STATUS_UNKNOWN_VARIANT = 59,

@@ -2,6 +2,7 @@
 #ifndef IOX2SD_RESULT_HPP
 #define IOX2SD_RESULT_HPP
 
+#include <algorithm>
 #include <cstdio>
 #include <cstdlib>
 #include <cstring>
@@ -834,6 +835,14 @@ public:
         std::size_t size = 0;
         if constexpr (detail::is_sized<Range>) size = std::size(range);
         return made_of(begin(range), end(range), size, make);
+    }
+
+    /// The same, sorted by a function that says whether one item comes before another.
+    template <class Range, class Make, class IsBefore>
+    static Result<List> sorted_of_range(Range& range, Make make, IsBefore is_before) {
+        Result<List> made = of_range(range, make);
+        if (made) std::sort(made->items_, made->items_ + made->size_, is_before);
+        return made;
     }
 
     /// The items that a call of the C headers writes into a buffer, where it says first how many

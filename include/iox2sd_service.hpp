@@ -361,9 +361,9 @@ public:
 
     /// Removes those ports of a dead node whose ids are not among `kept`: any range of ids of
     /// ports, which is read once. A port is kept where its kind and its number are. Where none of
-    /// its ports is left, the node is removed too, with all its handles. Many ids are fast where
-    /// they are sorted by their numbers, and those of one number by their roles. It throws what
-    /// the range throws, and then has removed nothing.
+    /// its ports is left, the node is removed too, with all its handles. The ids are sorted first,
+    /// so that many are fast in any order. It throws what the range throws, and then has removed
+    /// nothing.
     /// Error: `NoMemory`, before `NoService`; never where nothing is to be kept.
     template <class Range>
     Result<DeadNodeRemoval> remove_dead_node_id(const UniqueNodeId& dead, Range&& kept) {
@@ -492,9 +492,15 @@ public:
 private:
     template <class Range>
     Result<DeadNodeRemoval> remove_but(const UniqueNodeId& dead, Range& kept) {
-        const auto ids = List<iox2sd_port_id>::of_range(kept, [](const UniquePortId& port) {
+        const auto as_c = [](const UniquePortId& port) {
             return iox2sd_port_id{number(port.role()), port.parts()};
-        });
+        };
+        // By numbers and then by roles: so they are searched by halves.
+        const auto is_before = [](const iox2sd_port_id& one, const iox2sd_port_id& other) noexcept {
+            const UniqueServiceId first(one.port), second(other.port);
+            return first != second ? first < second : one.role < other.role;
+        };
+        const auto ids = List<iox2sd_port_id>::sorted_of_range(kept, as_c, is_before);
         if (!ids) return ids.error();
         const iox2sd_dead_node_removal answer =
             iox2sd_remove_dead_node_id(&object_, dead.parts(), ids->data(), ids->size());

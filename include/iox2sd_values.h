@@ -278,14 +278,16 @@ const char *iox2sd_part_str(iox2sd_message_part part);
 IOX2SD_CHECKED iox2sd_status iox2sd_type_detail_check(const iox2sd_type_detail *detail);
 
 /* The layout of a message whose payload has so many elements. All parts lie in it, apart and
- * aligned, for the service and for every compatible opener. Names and variants are ignored.
+ * aligned, for the service and for every compatible opener. Call it on the service's details: those
+ * of an opener, with smaller alignments, give other offsets and smaller sizes. Names and variants
+ * are ignored.
  * Errors: IOX2SD_STATUS_NULL; IOX2SD_STATUS_BAD_ALIGNMENT; IOX2SD_STATUS_TOO_LARGE past 2^63 - 1
  * bytes. */
 IOX2SD_CHECKED iox2sd_layout_answer
 iox2sd_message_sample_layout(const iox2sd_message_details *details, size_t elements);
 
 /* The offsets of user header and payload in a message whose header is at the offset or address
- * `header`. Nothing is read there. Names and variants are ignored.
+ * `header`, by the service's details too. Nothing is read there. Names and variants are ignored.
  * Errors: IOX2SD_STATUS_NULL; IOX2SD_STATUS_BAD_ALIGNMENT; IOX2SD_STATUS_TOO_LARGE where the
  * payload's offset would pass 2^64 - 1. */
 IOX2SD_CHECKED iox2sd_places_answer iox2sd_message_places(const iox2sd_message_details *details,
@@ -722,14 +724,15 @@ IOX2SD_CHECKED iox2sd_flag_answer iox2sd_has_same_messaging_pattern(iox2sd_patte
 
 /* ---- Opening a service ---- */
 
-/* What a service has. Attributes of NULL and 0 are none. The types of messages, and of responses,
- * are compared where neither this nor what is required has NULL there. */
+/* What a service has. Attributes of NULL and 0 are none. The types of messages, of responses and of
+ * keys are compared where neither this nor what is required has NULL there. */
 typedef struct iox2sd_offer {
     const iox2sd_description *description;
     const iox2sd_attribute *attributes;
     size_t attributes_length;
     const iox2sd_message_details *messages;  /* Of publish-subscribe, or of requests. */
     const iox2sd_message_details *responses; /* Of request-response. */
+    const iox2sd_type_detail *key_type;      /* Of a blackboard: the type of its keys. */
 } iox2sd_offer;
 
 /* What its opener requires. Of the description, the name, the id and the hash text are not
@@ -742,6 +745,7 @@ typedef struct iox2sd_requirements {
     size_t keys_length;
     const iox2sd_message_details *messages;
     const iox2sd_message_details *responses;
+    const iox2sd_type_detail *key_type;
 } iox2sd_requirements;
 
 /* What a reason is about. */
@@ -750,7 +754,8 @@ enum iox2sd_open_subject_number {
     IOX2SD_OPEN_ATTRIBUTES = 1,
     IOX2SD_OPEN_MESSAGES = 2,
     IOX2SD_OPEN_RESPONSES = 3,
-    IOX2SD_OPEN_SETTINGS = 4
+    IOX2SD_OPEN_KEYS = 4, /* The type of a blackboard's keys. */
+    IOX2SD_OPEN_SETTINGS = 5
 };
 typedef uint32_t iox2sd_open_subject;
 
@@ -759,7 +764,7 @@ typedef struct iox2sd_open_answer {
     iox2sd_status status;
     iox2sd_status cause;         /* Of attributes. */
     iox2sd_open_subject subject; /* 0 where the status is IOX2SD_STATUS_DONE. */
-    uint32_t side;               /* Of messages and responses. */
+    uint32_t side;               /* Of messages, responses and keys. */
     iox2sd_message_part part;    /* Of messages and responses. */
     iox2sd_settings_field field; /* Of settings. */
     size_t at;                   /* Of attributes. */
@@ -767,8 +772,8 @@ typedef struct iox2sd_open_answer {
 
 /* Whether a service has all that an opener requires. Compared are, in this order, the patterns, the
  * attributes as by iox2sd_attributes_verify, the types of messages and then of responses as by
- * iox2sd_message_is_compatible_to where both have them, and the settings as by
- * iox2sd_event_satisfies and its like.
+ * iox2sd_message_is_compatible_to, the types of keys as headers are there, each where both have
+ * them, and the settings as by iox2sd_event_satisfies and its like.
  * Errors: IOX2SD_STATUS_NULL, of either or of a description; IOX2SD_STATUS_UNKNOWN_PATTERN, of
  * either; IOX2SD_STATUS_OTHER_PATTERN; then those of these calls. */
 IOX2SD_CHECKED iox2sd_open_answer iox2sd_open_check(const iox2sd_offer *service,

@@ -320,7 +320,8 @@ struct MessageTypeDetails {
     IOX2SD_FIELDS(header, user_header, payload);
 
     /// The layout of a message whose payload has so many elements. All parts lie in it, apart and
-    /// aligned, for the service and for every compatible opener.
+    /// aligned, for the service and for every compatible opener. Call it on the service's details:
+    /// those of an opener, with smaller alignments, give other offsets and smaller sizes.
     /// Error: `TooLarge` past 2^63 - 1 bytes.
     Result<Layout> sample_layout(std::size_t number_of_elements) const noexcept {
         const iox2sd_message_details details = as_c();
@@ -330,7 +331,7 @@ struct MessageTypeDetails {
     }
 
     /// The offsets of user header and payload in a message that begins at the offset or address
-    /// `start`.
+    /// `start`, by the service's details too.
     /// Error: `TooLarge` where the payload's offset would pass 2^64 - 1.
     Result<MessagePlaces> places(std::size_t start) const noexcept {
         const iox2sd_message_details details = as_c();

@@ -150,8 +150,8 @@ static void openers(void) {
     details.payload = iox2sd_type_detail_str("P", IOX2SD_VARIANT_DYNAMIC, 16, 8);
     wider = details;
     wider.payload.size = 24;
-    iox2sd_offer offer = {&events, &pair, 1, &details, NULL};
-    iox2sd_requirements required = {&events, &pair, 1, NULL, 0, &details, &wider};
+    iox2sd_offer offer = {&events, &pair, 1, &details, NULL, NULL};
+    iox2sd_requirements required = {&events, &pair, 1, NULL, 0, &details, &wider, &wider.payload};
     CHECK(iox2sd_open_check(&offer, &required).status == IOX2SD_STATUS_DONE);
     CHECK(iox2sd_open_check(NULL, &required).status == IOX2SD_STATUS_NULL);
     CHECK(iox2sd_open_check(&offer, NULL).status == IOX2SD_STATUS_NULL);
@@ -164,6 +164,12 @@ static void openers(void) {
     CHECK(answer.field == IOX2SD_FIELD_MAX_NODES);
     CHECK(is_written(iox2sd_open_text(answer, out, sizeof out), out,
                      "max_nodes: a setting is not what the opener requires"));
+    offer.key_type = &details.payload;
+    answer = iox2sd_open_check(&offer, &required);
+    CHECK(answer.status == IOX2SD_STATUS_OTHER_SIZE && answer.subject == IOX2SD_OPEN_KEYS);
+    CHECK(answer.part == 0 && answer.side == 0 && answer.field == 0);
+    CHECK(is_written(iox2sd_open_text(answer, out, sizeof out), out,
+                     "key: the types of a part have other sizes"));
     offer.responses = &details;
     answer = iox2sd_open_check(&offer, &required);
     CHECK(answer.status == IOX2SD_STATUS_OTHER_SIZE && answer.subject == IOX2SD_OPEN_RESPONSES);
@@ -193,6 +199,33 @@ static void openers(void) {
     iox2sd_text_answer text = iox2sd_open_text(answer, NULL, 0);
     CHECK(text.status == IOX2SD_STATUS_BUFFER_TOO_SHORT && text.length == 41);
     CHECK(iox2sd_open_text(answer, NULL, 1).status == IOX2SD_STATUS_NULL);
+}
+
+/* The keys of a blackboard are of one type: of a smaller alignment, they are of another. */
+static void keys_of_openers(void) {
+    const iox2sd_blackboard_settings settings = iox2sd_blackboard_defaults();
+    const iox2sd_type_detail service = iox2sd_type_detail_str("K", IOX2SD_VARIANT_FIXED_SIZE, 8, 8);
+    iox2sd_type_detail opener = service, wrong = service;
+    iox2sd_description board;
+    CHECK(iox2sd_describe_blackboard_str(&settings, "a", false, id(1, 2, 3, 4), &board).status ==
+          IOX2SD_STATUS_DONE);
+    iox2sd_offer offer = {.description = &board, .key_type = &service};
+    iox2sd_requirements required = {.description = &board, .key_type = &opener};
+    CHECK(iox2sd_open_check(&offer, &required).status == IOX2SD_STATUS_DONE);
+    opener.alignment = 4;
+    iox2sd_open_answer answer = iox2sd_open_check(&offer, &required);
+    CHECK(answer.status == IOX2SD_STATUS_OTHER_ALIGNMENT && answer.subject == IOX2SD_OPEN_KEYS);
+    opener = iox2sd_type_detail_str("L", IOX2SD_VARIANT_FIXED_SIZE, 8, 8);
+    answer = iox2sd_open_check(&offer, &required);
+    CHECK(answer.status == IOX2SD_STATUS_OTHER_NAME && answer.subject == IOX2SD_OPEN_KEYS);
+    wrong.alignment = 3;
+    offer.key_type = &wrong;
+    answer = iox2sd_open_check(&offer, &required);
+    CHECK(answer.status == IOX2SD_STATUS_BAD_ALIGNMENT && answer.subject == IOX2SD_OPEN_KEYS);
+    CHECK(answer.side == 1 && answer.part == 0);
+    offer.key_type = NULL;
+    answer = iox2sd_open_check(&offer, &required);
+    CHECK(answer.status == IOX2SD_STATUS_DONE && answer.subject == IOX2SD_OPEN_PATTERN);
 }
 
 static void statuses_are_ok(void) {
@@ -522,6 +555,7 @@ int main(void) {
     refused_handles();
     words_and_makers();
     openers();
+    keys_of_openers();
     statuses_are_ok();
     static_texts();
     arrays_of_null();

@@ -385,6 +385,7 @@ static void prepare(void) {
               .status == IOX2SD_STATUS_DONE);
     offer.description = required.description = &described;
     offer.messages = required.messages = &details;
+    offer.key_type = required.key_type = &details.header;
     offer.attributes = required.pairs = pairs;
     offer.attributes_length = required.pairs_length = 16;
     nest(nested[0], 32, "[", "]");

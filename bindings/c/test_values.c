@@ -322,6 +322,14 @@ static void layouts(void) {
     CHECK(room.status == IOX2SD_STATUS_DONE && room.size == 40 && room.alignment == 8);
     CHECK(places.status == IOX2SD_STATUS_DONE && places.user_header == 72 && places.payload == 80);
 
+    /* A service's details, and those of an opener that may use its messages: other offsets. */
+    const iox2sd_message_details service = details_of(4, 16), opener = details_of(4, 4);
+    CHECK(iox2sd_message_is_compatible_to(&service, &opener).status == IOX2SD_STATUS_DONE);
+    CHECK(iox2sd_message_sample_layout(&service, 1).size == 40);
+    CHECK(iox2sd_message_sample_layout(&opener, 1).size == 24);
+    CHECK(iox2sd_message_places(&service, 0).payload == 16);
+    CHECK(iox2sd_message_places(&opener, 0).payload == 12);
+
     room = iox2sd_message_sample_layout(NULL, 2);
     places = iox2sd_message_places(NULL, 64);
     CHECK(room.status == IOX2SD_STATUS_NULL && room.size == 0 && room.alignment == 0);

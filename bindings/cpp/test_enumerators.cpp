@@ -127,7 +127,7 @@ NUMBERS(Likeness, IS(None, LIKENESS_NONE) IS(Spelling, LIKENESS_SPELLING)
     S(IllegalHash, ILLEGAL_HASH, "the hash text cannot be the name of a file")                     \
     S(BadRequiredKey, BAD_REQUIRED_KEY, "not a key of a required pair")                            \
     S(BadRequiredValue, BAD_REQUIRED_VALUE, "not a value of a required pair")                      \
-    S(BadAskedKey, BAD_ASKED_KEY, "not a key that may be searched for")                            \
+    S(BadAskedKey, BAD_ASKED_KEY, "not a required key, nor one that may be searched for")          \
     S(TooManyRequired, TOO_MANY_REQUIRED, "more than sixteen pairs and keys are required")         \
     S(MissingPair, MISSING_PAIR, "a required pair is not in the set")                              \
     S(MissingKey, MISSING_KEY, "no pair of the set has a required key")                            \

@@ -294,6 +294,13 @@ void kept_ranges() {
     CHECK(left(std::vector<UniquePortId>()) == 0);
     const std::unordered_set<UniquePortId> hashed = {listener(5), listener(6), listener(5)};
     CHECK(left(hashed) == 2);
+    // Falling numbers, each between ids of other kinds.
+    std::vector<UniquePortId> falling;
+    for (std::uint32_t i = most; i != 0; i -= 2) {
+        falling.insert(falling.end(), {UniqueSubscriberId(1, 1, 1, i), listener(i),
+                                       UniqueNotifierId(1, 1, 1, i)});
+    }
+    CHECK(left(falling) == most / 2);
 }
 
 void segments() {

@@ -416,6 +416,12 @@ void layouts() {
     CHECK(details(SIZE_MAX, 8).sample_layout(1).status() == Status::TooLarge);
     CHECK(details(8, 8).places(64).value() == MessagePlaces{72, 80});
     CHECK(details(8, 8).places(SIZE_MAX).status() == Status::TooLarge);
+    // A service's details, and those of an opener that may use its messages: other offsets.
+    CHECK(details(4, 4).is_compatible_to(details(4, 16)));
+    CHECK(details(4, 16).sample_layout(1).value().size == 40);
+    CHECK(details(4, 4).sample_layout(1).value().size == 24);
+    CHECK(details(4, 16).places(0).value() == MessagePlaces{8, 16});
+    CHECK(details(4, 4).places(0).value() == MessagePlaces{8, 12});
     CHECK(ordered(Layout{40, 8}, Layout{40, 16}) &&
           ordered(MessagePlaces{1, 9}, MessagePlaces{2, 0}));
 

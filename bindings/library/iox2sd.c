@@ -104,7 +104,8 @@ const char *iox2sd_status_str(iox2sd_status status) {
         case IOX2SD_STATUS_ILLEGAL_HASH: return "the hash text cannot be the name of a file";
         case IOX2SD_STATUS_BAD_REQUIRED_KEY: return "not a key of a required pair";
         case IOX2SD_STATUS_BAD_REQUIRED_VALUE: return "not a value of a required pair";
-        case IOX2SD_STATUS_BAD_ASKED_KEY: return "not a key that may be searched for";
+        case IOX2SD_STATUS_BAD_ASKED_KEY:
+            return "not a required key, nor one that may be searched for";
         case IOX2SD_STATUS_TOO_MANY_REQUIRED:
             return "more than sixteen pairs and keys are required";
         case IOX2SD_STATUS_MISSING_PAIR: return "a required pair is not in the set";
@@ -912,6 +913,18 @@ static iox2sd_open_answer open_check_types(iox2sd_open_subject subject,
     return made;
 }
 
+/* Keys agree where the headers of messages do: where they are equal. */
+static iox2sd_open_answer open_check_keys(const iox2sd_type_detail *service,
+                                          const iox2sd_type_detail *required) {
+    iox2sd_open_answer made = {.status = IOX2SD_STATUS_DONE, .subject = IOX2SD_OPEN_KEYS};
+    if (service != NULL && required != NULL) {
+        const iox2sd_message_details of_service = {*service, *service, *service};
+        const iox2sd_message_details of_opener = {*required, *required, *required};
+        made = open_check_types(IOX2SD_OPEN_KEYS, &of_service, &of_opener);
+    }
+    return made;
+}
+
 static iox2sd_open_answer open_check_settings(const iox2sd_description *service,
                                               const iox2sd_description *required) {
     const iox2sd_field_answer verdict = satisfies(service, required);
@@ -937,6 +950,9 @@ iox2sd_open_answer iox2sd_open_check(const iox2sd_offer *service,
         made = open_check_types(IOX2SD_OPEN_RESPONSES, service->responses, required->responses);
     }
     if (made.status == IOX2SD_STATUS_DONE) {
+        made = open_check_keys(service->key_type, required->key_type);
+    }
+    if (made.status == IOX2SD_STATUS_DONE) {
         made = open_check_settings(service->description, required->description);
     }
     if (made.status == IOX2SD_STATUS_DONE) made.subject = IOX2SD_OPEN_PATTERN;
@@ -949,6 +965,7 @@ static const char *subject_of(iox2sd_open_answer answer) {
         case IOX2SD_OPEN_ATTRIBUTES: return "attributes";
         case IOX2SD_OPEN_MESSAGES:
         case IOX2SD_OPEN_RESPONSES: return iox2sd_part_str(answer.part);
+        case IOX2SD_OPEN_KEYS: return "key";
         case IOX2SD_OPEN_SETTINGS: return iox2sd_field_str(answer.field);
         default: return "";
     }

@@ -33,14 +33,15 @@ class ContainerHandle(Checked):
     never reuses a handle.
     """
 
-    service_number: U64
+    service: U64
+    """The number of the service."""
     role: Role
     slot: Size
     ticket: U64
     """How many entries of its kind were made before it."""
 
     def _lent(self) -> _native.Handle:
-        return _native.Handle(self.service_number, self.role.value, self.slot, self.ticket)
+        return _native.Handle(self.service, self.role.value, self.slot, self.ticket)
 
     @classmethod
     def _of(cls, handle: _native.Handle) -> "ContainerHandle":
@@ -251,11 +252,13 @@ class DynamicConfig:
         self, node_id: UniqueNodeId, keep: Iterable[UniquePortId] = ()
     ) -> DeadNodeRemoval:
         """Removes the ports of a dead node, but for those whose id is in `keep`, and returns how
-        many it removed. Where no port is left, the node is removed too, with all its handles.
-        Raises `NoServiceError`.
+        many it removed. Where no port is left, the node is removed too, with all its handles. The
+        ids are sorted first, so that many are fast in any order. Raises `NoServiceError`.
         """
         instance(node_id, UniqueNodeId, "remove_dead_node_id")
-        kept = items(keep, UniquePortId, "remove_dead_node_id.keep")
+        given = items(keep, UniquePortId, "remove_dead_node_id.keep")
+        # By numbers and then by roles: so they are searched by halves.
+        kept = sorted(given, key=lambda one: (one.value, one.role.value))
         ids = (_native.PortId * len(kept))(*((one.role.value, one._lent()) for one in kept))
         what, lent = f"remove dead node {node_id}", node_id._lent()
         answer = self._answer(what, _native.remove_dead_node_id_at, lent, ids, len(kept))

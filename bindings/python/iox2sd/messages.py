@@ -73,8 +73,9 @@ class MessageTypeDetails(Checked):
 
     def sample_layout(self, number_of_elements: int) -> Layout:
         """The layout of a message whose payload has so many elements. All parts lie in it, apart
-        and aligned, for the service and for every compatible opener. Raises `TooLargeError` past
-        2^63 - 1 bytes.
+        and aligned, for the service and for every compatible opener. Call it on the service's
+        details: those of an opener, with smaller alignments, give other offsets and smaller sizes.
+        Raises `TooLargeError` past 2^63 - 1 bytes.
         """
         what = "MessageTypeDetails.sample_layout"
         elements = number(number_of_elements, Size, what)
@@ -84,8 +85,8 @@ class MessageTypeDetails(Checked):
 
     def places(self, header: int) -> Places:
         """The offsets of user header and payload in a message whose header is at an offset or
-        address. Nothing is read there. Raises `TooLargeError` where the payload's would pass
-        2^64 - 1.
+        address, by the service's details too. Nothing is read there. Raises `TooLargeError` where
+        the payload's would pass 2^64 - 1.
         """
         what = "MessageTypeDetails.places"
         answer = _native.message_places_at(self._lent(), 1, number(header, Size, what))

@@ -157,11 +157,11 @@ class Recorder(DynamicConfig):
             self._caller.begin(command).end(reply)
 
     def _deregister(self, handle: ContainerHandle) -> "LogCommand | None":
-        is_own = handle.service_number == self.service_number and handle.role is Role.NODE
+        is_own = handle.service == self.service_number and handle.role is Role.NODE
         return LogCommand.deregister(handle.slot, handle.ticket) if is_own else None
 
     def _release(self, handle: ContainerHandle) -> "LogCommand | None":
-        is_own = handle.service_number == self.service_number and handle.role is not Role.NODE
+        is_own = handle.service == self.service_number and handle.role is not Role.NODE
         return LogCommand.release(handle.role, handle.slot, handle.ticket) if is_own else None
 
     def _of_role(self, command: "Callable[[Role], LogCommand]", role: Role) -> "LogCommand | None":

@@ -229,7 +229,7 @@ class Capacities(Checked):
     @classmethod
     def of(cls, service: "PatternSettings | PatternStaticConfig | StaticConfig") -> "Capacities":
         """The capacities of a service with these settings, or with this description. A blackboard
-        has one writer.
+        has one writer, or as many as a `BlackboardStaticConfig` says.
         """
         return cls._of(service, f"{cls.__name__}.of")[1]
 
@@ -240,7 +240,10 @@ class Capacities(Checked):
         settings = service.pattern_config if isinstance(service, StaticConfig) else service
         call = _call(settings, "PATTERN_capacities_of_settings_at")
         made = call(_plain(settings, "Settings"), 1)
-        return _pattern(settings), cls(*(getattr(made, name) for name, _ in made._fields_))
+        capacities = cls(*(getattr(made, name) for name, _ in made._fields_))
+        if isinstance(settings, BlackboardStaticConfig):
+            capacities = replace(capacities, second=settings.max_writers)
+        return _pattern(settings), capacities
 
 
 @dataclass(frozen=True, slots=True, kw_only=True)

@@ -6,6 +6,7 @@ import weakref
 from functools import partial
 from pathlib import Path
 from typing import Any
+from unittest import mock
 
 import iox2sd
 from iox2sd import (
@@ -169,6 +170,7 @@ class Nodes(TestCase):
             first, second = made.register_node_id(NODE), made.register_node_id(OTHER)
             self.assertEqual(first, ContainerHandle(7, Role.NODE, 0, 0))
             self.assertEqual(second, ContainerHandle(7, Role.NODE, 1, 1))
+            self.assertEqual((second.service, second.slot), (made.service_number, 1))
             self.assertEqual((made.node(first), made.node(second)), (NODE, OTHER))
             self.assertEqual(made.list_node_ids(), (NODE, OTHER))
             self.assertEqual((made.number_of_nodes, made.max_nodes), (2, 2))
@@ -337,6 +339,32 @@ class DeadNodes(TestCase):
             self.assertEqual(self.removed(made, NODE, keep), ("HAS_OWNERS", 1, 0))
             self.assertEqual(made.ports_of(NODE), (publisher(2), subscriber(4)))
             self.assertEqual(made.list_node_ids(), (NODE, OTHER, NODE))
+
+    def test_ids_to_keep_come_in_any_order(self):
+        """Falling, each between ids of other kinds with its number."""
+        kinds = iox2sd.UniqueWriterId, iox2sd.UniquePublisherId, iox2sd.UniqueSubscriberId
+        for kept in ((3, 2, 1), (3, 1), (1, 2), (2,)):
+            with self.subTest(kept), service(1, 3, 0) as made:
+                made.register_node_id(NODE)
+                for counter in (2, 1, 3):
+                    made.attach(publisher(counter))
+                keep = [kind(9, 9, 9, counter) for counter in kept for kind in kinds]
+                gone = self.removed(made, NODE, keep)
+                self.assertEqual(gone, ("HAS_OWNERS", 3 - len(kept), 0))
+                left = {port.port_id.counter for port in made.ports_of(NODE)}
+                self.assertEqual(left, set(kept))
+
+    def test_the_library_gets_sorted_ids(self):
+        """By numbers, then by roles: it finds them by halves then."""
+        low, high = (iox2sd.UniqueSubscriberId(1, 0, 0, counter) for counter in (1, 2))
+        publishers = [iox2sd.UniquePublisherId(1, 0, 0, counter) for counter in (2, 1)]
+        with self.filled() as made, mock.patch.object(
+            iox2sd._native, "remove_dead_node_id_at", wraps=iox2sd._native.remove_dead_node_id_at
+        ) as call:
+            made.remove_dead_node_id(NODE, [high, *publishers, low])
+        ids = [(one.port.counter, one.role) for one in call.call_args.args[-2]]
+        roles = Role.PUBLISHER.value, Role.SUBSCRIBER.value
+        self.assertEqual(ids, [(counter, role) for counter in (1, 2) for role in roles])
 
     def test_an_unknown_node(self):
         with self.filled() as made:

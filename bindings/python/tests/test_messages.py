@@ -52,6 +52,14 @@ class Messages(TestCase):
         self.refuses(iox2sd.WrongTypeError, details().sample_layout, True, 2.0, None)
         self.refuses(iox2sd.OutOfRangeError, details().sample_layout, -1, 2**64)
 
+    def test_an_opener_lays_out_otherwise(self):
+        """So a message is laid out by the service's details."""
+        service, opener = details(4, 16), details(4, 4)
+        self.assertTrue(opener.is_compatible_to(service))
+        sizes = [one.sample_layout(1).size for one in (service, opener)]
+        offsets = [one.places(0).payload for one in (service, opener)]
+        self.assertEqual((sizes, offsets), ([40, 24], [16, 12]))
+
     def test_places(self):
         self.assertEqual(details().places(64), Places(72, 80))
         self.assertRaises(iox2sd.TooLargeError, details().places, 2**64 - 1)

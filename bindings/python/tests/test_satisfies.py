@@ -169,6 +169,21 @@ class CapacitiesOfSettings(TestCase):
                     for _ in range(3):
                         made.register_node_id(iox2sd.UniqueNodeId(1, 0, 0, 0))
 
+    def test_the_writers_of_a_blackboard(self):
+        """As many as are fixed; one for settings, which have no such number, and for a description,
+        which replaces it."""
+        fixed = BlackboardStaticConfig(
+            max_readers=4, max_writers=3, max_nodes=5, type_details=TypeDetail("Key", 8, 8)
+        )
+        self.assertEqual(Capacities.of(fixed), Capacities(5, 4, 3))
+        self.assertEqual(Capacities.of(replace(fixed, max_writers=0)), Capacities(5, 4, 0))
+        with DynamicConfig.described(fixed, 7) as made:
+            self.assertEqual(made.max_ports(iox2sd.Role.WRITER), 3)
+        described = StaticConfig(ServiceName("a"), ID, fixed)
+        settings = BlackboardSettings(max_readers=4, max_nodes=5)
+        for given in (described, described.pattern_config, settings):
+            self.assertEqual(Capacities.of(given), Capacities(5, 4, 1))
+
     def test_wrong_arguments(self):
         for wrong in (None, Capacities(1, 2, 3), MessagingPattern.EVENT, ServiceName("a")):
             self.assertRaises(iox2sd.WrongTypeError, DynamicConfig.described, wrong, 7)

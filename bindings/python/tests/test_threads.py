@@ -156,7 +156,7 @@ class Threads(TestCase):
                 room = iox2sd.Capacities(1, 1, 1)
                 with DynamicConfig(iox2sd.MessagingPattern.EVENT, number, room) as made:
                     handle = made.register_node_id(node(number))
-                    self.assertEqual((handle.service_number, handle.ticket), (number, 0))
+                    self.assertEqual((handle.service, handle.ticket), (number, 0))
                     self.assertEqual(made.list_node_ids(), (node(number),))
 
         work = [partial(keep, number) for number in range(THREADS)]

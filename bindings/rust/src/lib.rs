@@ -120,16 +120,26 @@ struct ReadMe;
 /// ```
 /// use iox2sd::prelude::*;
 /// use iox2sd::static_config::messaging_pattern::MessagingPattern as Required;
-/// fn satisfies(service: &StaticConfig, required: &Required) -> bool {
-///     service.satisfies(required)
+/// fn opens(service: &StaticConfig, required: &Required, attributes: &AttributeVerifier) -> bool {
+///     service.verify_opener(required, attributes).is_ok()
 /// }
 /// ```
 ///
-/// ```compile_fail,E0308
+/// ```compile_fail,E0599
+/// use iox2sd::prelude::*;
+/// use iox2sd::static_config::messaging_pattern::MessagingPattern as Required;
+/// fn opens(service: &StaticConfig, required: &Required, attributes: &AttributeVerifier) -> bool {
+///     required.verify_opener(service, attributes).is_ok()
+/// }
+/// ```
+///
+/// A description has no check that leaves out types and attributes: its pattern has it.
+///
+/// ```compile_fail,E0599
 /// use iox2sd::prelude::*;
 /// use iox2sd::static_config::messaging_pattern::MessagingPattern as Required;
 /// fn satisfies(service: &StaticConfig, required: &Required) -> bool {
-///     required.satisfies(service)
+///     service.satisfies(required)
 /// }
 /// ```
 ///

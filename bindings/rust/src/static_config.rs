@@ -260,23 +260,6 @@ impl StaticConfig {
             .is_same_pattern(&rhs.messaging_pattern)
     }
 
-    /// Whether the service meets what an opener requires of its pattern and its settings, as
-    /// [`MessagingPattern::satisfies`] says.
-    ///
-    #[doc = example!(description of event)]
-    /// use iox2sd::static_config::messaging_pattern::MessagingPattern;
-    ///
-    /// let mut required = *service.event();
-    /// required.max_nodes = 1;
-    /// assert!(service.satisfies(&MessagingPattern::Event(required)));
-    /// required.max_nodes = 100;
-    /// assert!(!service.satisfies(&MessagingPattern::Event(required)));
-    #[doc = example!(end)]
-    #[must_use]
-    pub fn satisfies(&self, required: &MessagingPattern) -> bool {
-        self.messaging_pattern.satisfies(required)
-    }
-
     /// Whether the service meets all that an opener requires: of its pattern, its attributes, the
     /// types of its messages or keys, and its settings. Types of keys are compared as headers are.
     ///

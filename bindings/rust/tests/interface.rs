@@ -419,7 +419,8 @@ fn an_opener_is_refused_with_the_first_reason() -> Tested {
     equal! {
         ask(required, &verifier) => Err(Unmet::Setting(Setting::MaxNodes));
     }
-    assert!(!samples.satisfies(&Pattern::PublishSubscribe(required)));
+    let pattern = samples.messaging_pattern();
+    assert!(!pattern.satisfies(&Pattern::PublishSubscribe(required)));
     required.message_type_details = other_types;
     assert!(matches!(ask(required, &verifier), Err(Unmet::Types(_))));
     equal! {
@@ -438,7 +439,7 @@ fn an_opener_is_refused_with_the_first_reason() -> Tested {
         refused => Err(Unmet::Pattern { service, required });
         told(refused) => "the service has the pattern PublishSubscribe, not Event";
     }
-    assert!(!samples.satisfies(&other) && samples.satisfies(samples.messaging_pattern()));
+    assert!(!pattern.satisfies(&other) && pattern.satisfies(pattern));
 
     let fixed = requests.request_response_mut();
     fixed.request_message_type_details = types;

@@ -95,6 +95,24 @@ fn a_message_has_room_for_its_parts() {
     }
 }
 
+/// So a message is laid out by the details of the service.
+#[test]
+fn an_opener_lays_out_otherwise() {
+    let details = |alignment| MessageTypeDetails {
+        header: detail("Header", 8, 8),
+        user_header: detail("UserHeader", 4, 4),
+        payload: detail("Payload", 4, alignment),
+    };
+    let (service, opener) = (details(16), details(4));
+    assert!(opener.is_compatible_to(&service));
+    equal! {
+        service.sample_layout(1).unwrap().size() => 40;
+        opener.sample_layout(1).unwrap().size() => 24;
+        service.payload_ptr_from_header(0) => Ok(16);
+        opener.payload_ptr_from_header(0) => Ok(12);
+    }
+}
+
 #[test]
 fn places_are_those_of_a_struct() {
     #[repr(C)]

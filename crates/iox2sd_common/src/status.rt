@@ -190,7 +190,7 @@ macro_rules! match_each {
             49 IllegalHash "the hash text cannot be the name of a file",
             50 BadRequiredKey "not a key of a required pair",
             51 BadRequiredValue "not a value of a required pair",
-            52 BadAskedKey "not a key that may be searched for",
+            52 BadAskedKey "not a required key, nor one that may be searched for",
             53 TooManyRequired "more than sixteen pairs and keys are required",
             54 MissingPair "a required pair is not in the set",
             55 MissingKey "no pair of the set has a required key",

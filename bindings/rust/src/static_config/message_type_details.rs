@@ -290,8 +290,8 @@ impl MessageTypeDetails {
         library::places(self, header).is_ok()
     }
 
-    /// The offset of the user header in a message with its header at the offset `header`. Offsets
-    /// are numbers: nothing is read there.
+    /// The offset of the user header in a message with its header at the offset `header`, by the
+    /// service's details. Offsets are numbers: nothing is read there.
     ///
     /// # Errors
     ///
@@ -310,7 +310,8 @@ impl MessageTypeDetails {
         Ok(user_header)
     }
 
-    /// The offset of the payload in a message with its header at the offset `header`.
+    /// The offset of the payload in a message with its header at the offset `header`, by the
+    /// service's details.
     ///
     /// # Errors
     ///
@@ -331,6 +332,9 @@ impl MessageTypeDetails {
     /// Wherever the header begins at a multiple of its alignment, all parts lie inside the layout,
     /// apart and aligned, for the service and for every compatible opener. The same holds of
     /// messages that lie end to end. A smaller layout may be possible.
+    ///
+    /// Call it on the service's details: those of an opener, with smaller alignments, give other
+    /// offsets and smaller sizes.
     ///
     /// # Errors
     ///

@@ -101,7 +101,8 @@ impl MessagingPattern {
     }
 
     /// Whether a service with this pattern meets what an opener requires: the pattern is the same,
-    /// and its settings satisfy those of the opener. Types are no part of it.
+    /// and its settings satisfy those of the opener. Types and attributes are no part of it: those
+    /// [`StaticConfig::verify_opener`](super::StaticConfig::verify_opener) compares too.
     ///
     #[doc = example!(description of event)]
     /// let board = StaticConfig::new_blackboard(&name, &Config::default(), id)?;
