@@ -43,7 +43,8 @@ static JOINING: [(JoinError, &str); 5] = [
     (JoinError::NoRoomForPort, "NoRoomForPort"),
 ];
 
-static PUBLISHING: [(PublisherError, &str); 5] = [
+static PUBLISHING: [(PublisherError, &str); 6] = [
+    (PublisherError::NotAsDescribed, "NotAsDescribed"),
     (PublisherError::TypesNotGiven, "TypesNotGiven"),
     (PublisherError::TooManyChunks, "TooManyChunks"),
     (PublisherError::MessageTooLarge, "MessageTooLarge"),

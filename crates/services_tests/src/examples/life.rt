@@ -34,7 +34,6 @@ fn open(rt: &impl Abort, service: &mut DynamicConfig, counter: u32) {
 fn publish(rt: &impl Abort, service: &mut DynamicConfig, counter: u32, node: u32) {
     let red = description(rt, 3);
     assert!(rt; red.is_publish_subscribe());
-    assert!(rt; service.is_publish_subscribe());
     let made = attach_publisher(
         red.publish_subscribe(),
         service,
