@@ -12,10 +12,11 @@ use Rattle.iox2_dynamic.specs.declared.dynamic_config.port_details.PortDetails.{
 use Rattle.iox2_dynamic.specs.declared.dynamic_config.port_details.PortDetails.TheVariants as of
 use Rattle.iox2_dynamic.specs.Service.{Service}
 use Rattle.iox2_dynamic.specs.Steps.{AttachStep}
+use Rattle.service_examples.specs.Described.{IsAsDescribed}
 use Rattle.service_examples.specs.declared.factory.DataSegment.{DataSegment}
 use Rattle.service_examples.specs.declared.factory.Publisher.{Publisher}
 use Rattle.service_examples.specs.declared.factory.PublisherError.{PublisherError}
-use Rattle.service_examples.specs.declared.factory.PublisherError.TheVariants.{TypesNotGiven, TooManyChunks, MessageTooLarge, SegmentTooLarge, NotAttached}
+use Rattle.service_examples.specs.declared.factory.PublisherError.TheVariants.{NotAsDescribed, TypesNotGiven, TooManyChunks, MessageTooLarge, SegmentTooLarge, NotAttached}
 use Rattle.service_examples.specs.declared.factory.PublisherSettings.{PublisherSettings}
 
 -- as many blocks as the greatest number of chunks that can be in use,
@@ -54,6 +55,7 @@ GivesSegment s loans n (Err SegmentTooLarge) =
     (chunks : ℕ) × IsCounted s loans chunks × (chunks < 2 ^ 64)
     × (sample_size s.message_type_details n < 2 ^ 63)
     × (2 ^ 63 ≤ chunks * sample_size s.message_type_details n)
+GivesSegment s loans n (Err NotAsDescribed) = ⊥
 GivesSegment s loans n (Err (NotAttached why)) = ⊥
 
 -- the details of a publisher with this many samples
@@ -67,16 +69,19 @@ publisher_of p samples = of.Publisher (record {
   max_number_of_segments = 1;
 })
 
--- the publisher was attached, and has its segment
+-- the settings are those of the service, the publisher was attached, and it has its segment
 abbrev pub AttachesPublisher : StaticConfig → PublisherSettings → Service → Publisher → Service
     → Type 0
 AttachesPublisher s p old made new =
-    IsSegment s p.max_loaned_samples p.max_elements made.segment
+    IsAsDescribed s old × IsSegment s p.max_loaned_samples p.max_elements made.segment
     × AttachStep old (publisher_of p made.segment.blocks) (Ok made.handle) new
 
 -- the first cause for which the publisher is not attached
 abbrev pub RefusesPublisher : StaticConfig → PublisherSettings → Service → PublisherError → Type 0
+RefusesPublisher s p service NotAsDescribed = ¬ IsAsDescribed s service
 RefusesPublisher s p service (NotAttached why) =
-    (segment : DataSegment) × IsSegment s p.max_loaned_samples p.max_elements segment
+    IsAsDescribed s service × (segment : DataSegment)
+    × IsSegment s p.max_loaned_samples p.max_elements segment
     × ((left : Service) × AttachStep service (publisher_of p segment.blocks) (Err why) left)
-RefusesPublisher s p service why = GivesSegment s p.max_loaned_samples p.max_elements (Err why)
+RefusesPublisher s p service why =
+    IsAsDescribed s service × GivesSegment s p.max_loaned_samples p.max_elements (Err why)

@@ -1,16 +1,16 @@
 //! A service builder: opens a service that its creator has described.
-ghost use Rattle.std.specs.Prelude.{◌≡◌, ◌↔◌, IsTrue, OnErr, IfOk, IfErr};
+ghost use Rattle.std.specs.Prelude.{◌↔◌, IsTrue, OnErr, IfOk, IfErr};
 ghost use Rattle.iox2_config.specs.Blocks.{MayOpen};
-ghost use Rattle.iox2_config.specs.declared.hash.input.PatternKind.TheVariants as kind;
-ghost use Rattle.iox2_static.specs.MessagingPattern.{kind_of};
-ghost use Rattle.service_examples.specs.Opening.{LaysOut, Opens, Refuses, types_of};
+ghost use Rattle.service_examples.specs.Opening.{LaysOut, Opens, Refuses};
 ghost use Rattle.service_examples.specs.Unchanged.{SameAttached};
 
+use crate::described::is_as_described;
 use iox2_config::types::{MessageTypeDetails, SampleLayout};
 use iox2_container::container::ContainerHandle;
 use iox2_dynamic::dynamic_config::{DynamicConfig, RegisterNodeResult};
 use iox2_ids::identifiers::UniqueNodeId;
-use iox2_static::static_config::StaticConfig;
+use iox2_static::static_config::setting::Setting;
+use iox2_static::static_config::{StaticConfig, publish_subscribe};
 use iox2_texts::attribute::{AttributeVerificationError, AttributeVerifier};
 
 /// What an opener wants of a publish-subscribe service.
@@ -18,8 +18,8 @@ use iox2_texts::attribute::{AttributeVerificationError, AttributeVerifier};
 pub struct Opener {
     /// The attributes that the service must have.
     pub verifier: AttributeVerifier,
-    /// The types of its messages.
-    pub types: MessageTypeDetails,
+    /// The settings that it must have, with the types of the opener's messages.
+    pub required: publish_subscribe::StaticConfig,
     /// How many elements the payload of a message has.
     pub elements: usize,
     /// The node that opens the service.
@@ -39,20 +39,24 @@ pub struct OpenedService {
 /// Why a service was not opened. The first cause is reported, and nothing is registered.
 #[derive(Debug, Drop, PartialEq, Eq)]
 pub enum OpenError {
-    /// It is not a publish-subscribe service.
+    /// It is not described as a publish-subscribe service.
     IncompatibleMessagingPattern,
+    /// It has another pattern, or other capacities, than its description says.
+    NotAsDescribed,
     /// It lacks an attribute that the opener requires.
     IncompatibleAttributes(AttributeVerificationError),
     /// The opener's types were not given, or do not suit those of the service.
     IncompatibleTypes,
+    /// This setting is not what the opener requires.
+    UnmetSetting(Setting),
     /// A message would need more than 2^63 - 1 bytes.
     MessageTooLarge,
     /// The node was not registered.
     NodeRefused(RegisterNodeResult),
 }
 
-/// Opens the service with this description: verifies its attributes, compares the types, lays out a
-/// message, and registers the opener's node.
+/// Opens the service with this description: verifies its attributes, compares the types and the
+/// settings, lays out a message, and registers the opener's node.
 pub fn open_service(
     description: &StaticConfig,
     service: &mut DynamicConfig,
@@ -63,7 +67,7 @@ pub fn open_service(
     ensures cause { IfErr result (Refuses description.now opener.now service.old) }
     ensures unchanged { OnErr result (SameAttached service.old service.new) }
 {
-    let message = room_for(description, opener)?;
+    let message = room_for(description, service, opener)?;
     match service.register_node_id(opener.node) {
         Ok(node) => Ok(OpenedService { node, message }),
         Err(why) => Err(OpenError::NodeRefused(why)),
@@ -71,11 +75,19 @@ pub fn open_service(
 }
 
 /// The layout of a message of the opener's, where the service is as it requires.
-fn room_for(description: &StaticConfig, opener: &Opener) -> Result<SampleLayout, OpenError>
-    ensures { LaysOut description.now opener.now result }
+fn room_for(
+    description: &StaticConfig,
+    service: &DynamicConfig,
+    opener: &Opener,
+) -> Result<SampleLayout, OpenError>
+    ensures { LaysOut description.now opener.now service.now result }
 {
     if !description.is_publish_subscribe() {
         return Err(OpenError::IncompatibleMessagingPattern);
+    }
+    let settings = description.publish_subscribe();
+    if !is_as_described(settings, service) {
+        return Err(OpenError::NotAsDescribed);
     }
     if let Err(missing) = opener
         .verifier
@@ -83,22 +95,17 @@ fn room_for(description: &StaticConfig, opener: &Opener) -> Result<SampleLayout,
     {
         return Err(OpenError::IncompatibleAttributes(missing));
     }
-    let types = types_of(description);
-    if !may_open(&opener.types, types) {
+    let types = &settings.message_type_details;
+    if !may_open(&opener.required.message_type_details, types) {
         return Err(OpenError::IncompatibleTypes);
+    }
+    if let Some(unmet) = settings.first_unmet(&opener.required) {
+        return Err(OpenError::UnmetSetting(unmet));
     }
     match types.sample_layout(opener.elements) {
         Some(message) => Ok(message),
         None => Err(OpenError::MessageTooLarge),
     }
-}
-
-/// The types of the messages of a publish-subscribe service.
-fn types_of(description: &StaticConfig) -> &MessageTypeDetails
-    requires { kind_of description.now.pattern ≡ kind.PublishSubscribe }
-    ensures { result.now ≡ types_of description.now.pattern }
-{
-    description.publish_subscribe().message_type_details()
 }
 
 /// Whether an opener with these types may use the messages of the service: its types were given,

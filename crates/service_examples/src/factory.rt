@@ -1,9 +1,9 @@
 //! The part of a port factory that attaches publishers and says which memory each of them needs.
 ghost use Rattle.std.specs.Prelude.{◌≡◌, ◌≤◌, ◌<◌, ◌*◌, ◌^◌, OnErr, IfOk, IfErr, MatchOption};
-ghost use Rattle.iox2_config.specs.declared.hash.input.PatternKind.TheVariants as kind;
 ghost use Rattle.service_examples.specs.Publishing.{AttachesPublisher, RefusesPublisher, GivesSegment};
 ghost use Rattle.service_examples.specs.Unchanged.{SameAttached};
 
+use crate::described::is_as_described;
 use iox2_config::config::DataSegmentType;
 use iox2_config::types::SampleLayout;
 use iox2_container::container::ContainerHandle;
@@ -48,6 +48,8 @@ pub struct Publisher {
 /// Why a publisher was not attached. The first cause is reported, and nothing is attached.
 #[derive(Clone, Copy, Debug, PartialEq, Eq)]
 pub enum PublisherError {
+    /// The service has another pattern, or other capacities, than the settings say.
+    NotAsDescribed,
     /// The types of the service's messages were not given.
     TypesNotGiven,
     /// More than 2^64 - 1 chunks could be in use at once.
@@ -63,19 +65,21 @@ pub enum PublisherError {
 /// The greatest size of a block of memory, 2^63 - 1.
 const GREATEST_SIZE: usize = isize::MAX as usize;
 
-/// Attaches a publisher to a publish-subscribe service
+/// Attaches a publisher to the publish-subscribe service
 /// with these settings, and gives its data segment.
 pub fn attach_publisher(
     settings: &StaticConfig,
     service: &mut DynamicConfig,
     publisher: &PublisherSettings,
 ) -> Result<Publisher, PublisherError>
-    requires { service.old.pattern ≡ kind.PublishSubscribe }
     ensures attached { IfOk result (λ made.
         AttachesPublisher settings.now publisher.now service.old made service.new) }
     ensures cause { IfErr result (RefusesPublisher settings.now publisher.now service.old) }
     ensures unchanged { OnErr result (SameAttached service.old service.new) }
 {
+    if !is_as_described(settings, service) {
+        return Err(PublisherError::NotAsDescribed);
+    }
     let segment = data_segment(
         settings,
         publisher.max_loaned_samples,

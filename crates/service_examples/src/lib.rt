@@ -8,6 +8,7 @@
 pub mod builder;
 pub mod census;
 pub mod counting;
+mod described;
 pub mod discovery;
 pub mod factory;
 pub mod join;

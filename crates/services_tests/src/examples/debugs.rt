@@ -1,10 +1,13 @@
 //! What `Debug` prints of causes, counts and what is given and answered: each variant by name, each
 //! field by name and value.
 use super::services::types;
-use iox2_config::types::{MessageTypeDetails, SampleLayout};
+use iox2_config::config::Config;
+use iox2_config::types::SampleLayout;
 use iox2_container::container::{ContainerHandle, Role};
 use iox2_dynamic::dynamic_config::{AttachError, PortDetails, ReaderDetails, RegisterNodeResult};
 use iox2_ids::identifiers::{UniqueNodeId, UniquePublisherId, UniqueReaderId};
+use iox2_static::static_config::publish_subscribe::StaticConfig;
+use iox2_static::static_config::setting::Setting;
 use iox2_texts::attribute::{AttributeKey, AttributeVerificationError, AttributeVerifier};
 use service_examples::builder::{OpenError, OpenedService, Opener};
 use service_examples::census::{Census, PortCount};
@@ -14,12 +17,17 @@ use service_examples::join::{JoinError, Joined};
 use std::process::Abort;
 use test_support::printing::{are_shown_as, is_shown_as};
 
-const OPENING: [(OpenError, &str); 4] = [
+const OPENING: [(OpenError, &str); 6] = [
     (
         OpenError::IncompatibleMessagingPattern,
         "IncompatibleMessagingPattern",
     ),
+    (OpenError::NotAsDescribed, "NotAsDescribed"),
     (OpenError::IncompatibleTypes, "IncompatibleTypes"),
+    (
+        OpenError::UnmetSetting(Setting::MaxNodes),
+        "UnmetSetting(MaxNodes)",
+    ),
     (OpenError::MessageTooLarge, "MessageTooLarge"),
     (
         OpenError::NodeRefused(RegisterNodeResult::MarkedForDestruction),
@@ -35,7 +43,8 @@ static JOINING: [(JoinError, &str); 5] = [
     (JoinError::NoRoomForPort, "NoRoomForPort"),
 ];
 
-static PUBLISHING: [(PublisherError, &str); 5] = [
+static PUBLISHING: [(PublisherError, &str); 6] = [
+    (PublisherError::NotAsDescribed, "NotAsDescribed"),
     (PublisherError::TypesNotGiven, "TypesNotGiven"),
     (PublisherError::TooManyChunks, "TooManyChunks"),
     (PublisherError::MessageTooLarge, "MessageTooLarge"),
@@ -133,7 +142,7 @@ fn message(rt: &impl Abort) -> SampleLayout {
 fn openers_and_what_they_get_are_shown_by_field(rt: HostRuntime) {
     let opener = Opener {
         verifier: AttributeVerifier::new(),
-        types: MessageTypeDetails::default(),
+        required: StaticConfig::new(&Config::default()),
         elements: 2,
         node: node(&rt, 5),
     };
@@ -146,12 +155,15 @@ fn openers_and_what_they_get_are_shown_by_field(rt: HostRuntime) {
             is_shown_as(
                 &opener,
                 "Opener { verifier: AttributeVerifier { attributes: AttributeSet { \
-                attributes: [] }, keys: [] }, types: MessageTypeDetails { header: TypeDetail { \
+                attributes: [] }, keys: [] }, required: StaticConfig { max_subscribers: 8, \
+                max_publishers: 2, max_nodes: 20, history_size: 0, subscriber_max_buffer_size: 2, \
+                subscriber_max_borrowed_samples: 2, enable_safe_overflow: true, \
+                message_type_details: MessageTypeDetails { header: TypeDetail { \
                 variant: FixedSize, type_name: StaticString { bytes: [] }, size: 0, \
                 alignment: 0 }, user_header: TypeDetail { variant: FixedSize, \
                 type_name: StaticString { bytes: [] }, size: 0, alignment: 0 }, \
                 payload: TypeDetail { variant: FixedSize, type_name: StaticString { bytes: [] }, \
-                size: 0, alignment: 0 } }, elements: 2, \
+                size: 0, alignment: 0 } } }, elements: 2, \
                 node: UniqueNodeId { id: UniqueId { value: 5, kind: PhantomData<_> } } }",
             ),
             is_shown_as(

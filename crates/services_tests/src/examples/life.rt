@@ -26,15 +26,14 @@ fn attached(alloc: Global, service: &DynamicConfig) -> Result<Vec<(u128, Option<
 
 /// Opens the service by the node with this counter.
 fn open(rt: &impl Abort, service: &mut DynamicConfig, counter: u32) {
-    let opened = open_service(&description(rt), service, &opener(rt, "red", counter));
+    let opened = open_service(&description(rt, 3), service, &opener(rt, "red", counter));
     assert!(rt; opened.is_ok());
 }
 
 /// Attaches a publisher of the node.
 fn publish(rt: &impl Abort, service: &mut DynamicConfig, counter: u32, node: u32) {
-    let red = description(rt);
+    let red = description(rt, 3);
     assert!(rt; red.is_publish_subscribe());
-    assert!(rt; service.is_publish_subscribe());
     let made = attach_publisher(
         red.publish_subscribe(),
         service,

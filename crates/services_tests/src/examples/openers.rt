@@ -1,14 +1,16 @@
 //! What a service builder answers.
 use super::services::*;
 use iox2_config::config::Config;
-use iox2_config::hash::Sha1Hasher;
+use iox2_config::hash::{PatternKind, Sha1Hasher};
 use iox2_config::types::MessageTypeDetails;
-use iox2_dynamic::dynamic_config::{DynamicConfig, RegisterNodeResult};
+use iox2_dynamic::dynamic_config::{DynamicConfig, MessagingPatternSettings, RegisterNodeResult};
 use iox2_ids::identifiers::UniqueServiceId;
 use iox2_static::static_config::StaticConfig;
+use iox2_static::static_config::setting::Setting;
 use iox2_texts::service_name::ServiceName;
 use service_examples::builder::{OpenError, Opener, open_service};
 use service_examples::monitor::remove_dead_nodes;
+use std::alloc::{AllocError, Global};
 use std::process::Abort;
 use std::test::Fail;
 
@@ -16,8 +18,11 @@ use std::test::Fail;
 fn word(error: OpenError) -> &'static str {
     match error {
         OpenError::IncompatibleMessagingPattern => "pattern",
+        OpenError::NotAsDescribed => "described",
         OpenError::IncompatibleAttributes(_) => "attributes",
         OpenError::IncompatibleTypes => "types",
+        OpenError::UnmetSetting(Setting::MaxNodes) => "max nodes",
+        OpenError::UnmetSetting(_) => "settings",
         OpenError::MessageTooLarge => "too large",
         OpenError::NodeRefused(RegisterNodeResult::ExceedsMaxNumberOfNodes) => "full",
         OpenError::NodeRefused(RegisterNodeResult::MarkedForDestruction) => "locked",
@@ -36,19 +41,20 @@ fn open(
     }
 }
 
-/// What the red service answers to an opener that wants this
-/// color, messages of these types, and this many elements.
+/// What the red service answers to an opener that wants this color,
+/// messages of these types, so many nodes, and so many elements.
 fn reported(
     rt: &impl Abort,
     service: &mut DynamicConfig,
     color: &str,
     types: MessageTypeDetails,
-    elements: usize,
+    (nodes, elements): (usize, usize),
 ) -> Result<(usize, usize), &'static str> {
     let mut faulty = opener(rt, color, 1);
-    faulty.types = types;
+    faulty.required.message_type_details = types;
+    faulty.required.max_nodes = nodes;
     faulty.elements = elements;
-    open(&description(rt), service, &faulty)
+    open(&description(rt, 1), service, &faulty)
 }
 
 /// What an event service answers to an opener with each fault.
@@ -65,6 +71,20 @@ fn reported_by_event(
     open(&event, service, &opener(rt, "blue", 1))
 }
 
+/// What a service of this pattern and with this room for ports of its
+/// two kinds answers to an opener, where the red one is described.
+fn reported_by_other(
+    rt: &impl Abort,
+    alloc: Global,
+    pattern: PatternKind,
+    first: usize,
+    second: usize,
+) -> Result<Result<(usize, usize), &'static str>, AllocError> {
+    let settings = MessagingPatternSettings::new(pattern, first, second);
+    let mut service = Box::new(alloc, DynamicConfig::new(alloc, &settings, 1, 7)?)?;
+    Ok(open(&description(rt, 1), &mut service, &opener(rt, "blue", 1)))
+}
+
 /// Each opener has one fault less than the one before; the last has none, and gets the first slot.
 /// A message of two numbers behind a header of 40 bytes takes 64.
 #[test]
@@ -73,27 +93,53 @@ fn the_first_cause_is_told_and_nothing_stays(rt: HostRuntime) -> Result<(), Fail
     let most = usize::MAX;
     let answers = [
         reported_by_event(&rt, &mut service),
-        reported(&rt, &mut service, "blue", types(&rt, 16), most),
-        reported(&rt, &mut service, "red", types(&rt, 16), most),
+        open(&description(&rt, 2), &mut service, &opener(&rt, "blue", 1)),
+        reported(&rt, &mut service, "blue", types(&rt, 16), (2, most)),
+        reported(&rt, &mut service, "red", types(&rt, 16), (2, most)),
         reported(
             &rt,
             &mut service,
             "red",
             MessageTypeDetails::default(),
-            most,
+            (2, most),
         ),
-        reported(&rt, &mut service, "red", types(&rt, 8), most),
-        reported(&rt, &mut service, "red", types(&rt, 8), 2),
+        reported(&rt, &mut service, "red", types(&rt, 8), (2, most)),
+        reported(&rt, &mut service, "red", types(&rt, 8), (1, most)),
+        reported(&rt, &mut service, "red", types(&rt, 8), (1, 2)),
     ];
     assert_eq!(rt;
         answers,
         [
             Err("pattern"),
+            Err("described"),
             Err("attributes"),
             Err("types"),
             Err("types"),
+            Err("max nodes"),
             Err("too large"),
             Ok((0, 64)),
+        ]
+    );
+    Ok(())
+}
+
+/// The pattern, the room for publishers and that for subscribers are those of the description.
+#[test]
+fn another_service_than_the_described_one_is_not_opened(rt: HostRuntime) -> Result<(), Fail> {
+    let alloc = rt.alloc();
+    let answers = [
+        reported_by_other(&rt, alloc, PatternKind::Event, 2, 2)?,
+        reported_by_other(&rt, alloc, PatternKind::PublishSubscribe, 1, 2)?,
+        reported_by_other(&rt, alloc, PatternKind::PublishSubscribe, 2, 1)?,
+        reported_by_other(&rt, alloc, PatternKind::PublishSubscribe, 2, 2)?,
+    ];
+    assert_eq!(rt;
+        answers,
+        [
+            Err("described"),
+            Err("described"),
+            Err("described"),
+            Err("attributes"),
         ]
     );
     Ok(())
@@ -103,7 +149,7 @@ fn the_first_cause_is_told_and_nothing_stays(rt: HostRuntime) -> Result<(), Fail
 #[test]
 fn no_node_is_taken_beyond_the_places_nor_after_the_last(rt: HostRuntime) -> Result<(), Fail> {
     let mut service = service(rt.alloc(), 1)?;
-    let red = description(&rt);
+    let red = description(&rt, 1);
     let first = open(&red, &mut service, &opener(&rt, "red", 1));
     let second = open(&red, &mut service, &opener(&rt, "red", 2));
     remove_dead_nodes(&mut service, &[node(&rt, 1)]);

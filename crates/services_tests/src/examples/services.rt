@@ -6,7 +6,7 @@ use iox2_dynamic::dynamic_config::{
     DynamicConfig, MessagingPatternSettings, PortDetails, PublisherDetails, SubscriberDetails,
 };
 use iox2_ids::identifiers::{UniqueNodeId, UniquePublisherId, UniqueServiceId, UniqueSubscriberId};
-use iox2_static::static_config::StaticConfig;
+use iox2_static::static_config::{StaticConfig, publish_subscribe};
 use iox2_texts::attribute::{AttributeKey, AttributeSet, AttributeValue, AttributeVerifier};
 use iox2_texts::service_name::ServiceName;
 use service_examples::builder::Opener;
@@ -40,8 +40,17 @@ pub(super) fn color(rt: &impl Abort, value: &str) -> (AttributeKey, AttributeVal
     )
 }
 
-/// A publish-subscribe service with the default settings, of the color red.
-pub(super) fn description(rt: &impl Abort) -> StaticConfig {
+/// The default settings for this many nodes and for two subscribers, with messages of numbers.
+pub(super) fn settings(rt: &impl Abort, nodes: usize) -> publish_subscribe::StaticConfig {
+    let mut settings = publish_subscribe::StaticConfig::new(&Config::default());
+    settings.max_nodes = nodes;
+    settings.max_subscribers = 2;
+    settings.message_type_details = types(rt, 8);
+    settings
+}
+
+/// A publish-subscribe service of the color red, for this many nodes.
+pub(super) fn description(rt: &impl Abort, nodes: usize) -> StaticConfig {
     let name = ServiceName::new("My/Funk/ServiceName").expect(rt, "a name");
     let mut service = StaticConfig::new_publish_subscribe::<Sha1Hasher>(
         &name,
@@ -50,6 +59,8 @@ pub(super) fn description(rt: &impl Abort) -> StaticConfig {
     ).expect(rt, "a description");
     assert!(rt; service.is_publish_subscribe());
     service.publish_subscribe_mut().message_type_details = types(rt, 8);
+    assert!(rt; service.is_publish_subscribe());
+    *service.publish_subscribe_mut() = settings(rt, nodes);
     let mut attributes = AttributeSet::new();
     let (key, value) = color(rt, "red");
     attributes.add(&key, &value).expect(rt, "room");
@@ -70,7 +81,7 @@ pub(super) fn opener(rt: &impl Abort, wanted: &str, counter: u32) -> Opener {
         verifier: AttributeVerifier::new()
             .require(&key, &value)
             .expect(rt, "room"),
-        types: types(rt, 8),
+        required: settings(rt, 1),
         elements: 2,
         node: node(rt, counter),
     }
