@@ -33,7 +33,7 @@ fn settle_slot<M: Machine>(
     let Some(call) = slots[slot] else {
         return Ok(());
     };
-    if !has(settled.waiting, slot) || !machine.is_idle(&settled.state, call) {
+    if !has(settled.waiting, slot) || !machine.is_idle(&settled.state, call)? {
         return Ok(());
     }
     settled.made.push(call)?;
@@ -249,18 +249,19 @@ fn is_alone<M: Machine>(
     slots: &[Option<usize>],
     config: &Config<M::State>,
     slot: usize,
-) -> bool
+) -> Result<bool, AllocError>
     requires few { length slots.now ≤ 64 }
-    ensures { IsTrue result → IsAlone (M.Step machine.now) slots.now config.now slot }
+    ensures { IfOk result (λ alone. IsTrue alone
+        → IsAlone (M.Step machine.now) slots.now config.now slot) }
 {
     for at in 0..slots.len() {
         if let Some(other) = waits_beside(slots, config.waiting, slot, at) {
-            if !machine.is_blocked(&config.state, other) {
-                return false;
+            if !machine.is_blocked(&config.state, other)? {
+                return Ok(false);
             }
         }
     }
-    true
+    Ok(true)
 }
 
 /// Makes the call in the slot in place, where it waits, is known to be made first or to move before
@@ -282,7 +283,7 @@ fn make_first<M: Machine>(
         return Ok(false);
     }
     if !moves_first(machine, slots, config.waiting, slot)
-        && !is_alone(machine, slots, config, slot)
+        && !is_alone(machine, slots, config, slot)?
     {
         return Ok(false);
     }
