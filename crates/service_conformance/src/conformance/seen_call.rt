@@ -261,7 +261,7 @@ impl SeenCall {
     /// Whether the reply that was seen says that nothing changed, or the call is a query whose
     /// reply was not seen. Such a call changes nothing, in whatever state it is made. A no says
     /// nothing.
-    pub fn changes_nothing(&self) -> bool
+    pub(super) fn changes_nothing(&self) -> bool
         ensures { IsTrue result → ChangesNothing self.now }
     {
         let Some(seen) = &self.seen else {
