@@ -63,11 +63,7 @@ cleared_put set slot t h k ne =
 
 -- a slot is in the set or not
 pub bit_cases : (set slot : ℕ) → (bit_at set slot ≡ 0) ⊎ (bit_at set slot ≡ 1)
-bit_cases set slot =
-    elim (cases_eq (bit_at set slot) 0) [
-      | inl none ↦ inl none
-      | inr some ↦ inr (omega (arith, bit_at-lt set slot, some))
-    ]
+bit_cases set slot = grind (arith, cases_eq, bit_at-lt)
 
 -- a slot that is not in the set
 pub bit_none : (set slot : ℕ) → (bit_at set slot ≡ 1 → ⊥) → bit_at set slot ≡ 0

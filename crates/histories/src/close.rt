@@ -33,7 +33,7 @@ fn settle_slot<M: Machine>(
     let Some(call) = slots[slot] else {
         return Ok(());
     };
-    if !has(settled.waiting, slot) || !machine.is_idle(&settled.state, call) {
+    if !has(settled.waiting, slot) || !machine.is_idle(&settled.state, call)? {
         return Ok(());
     }
     settled.made.push(call)?;
@@ -43,7 +43,7 @@ fn settle_slot<M: Machine>(
 
 /// Makes those of the calls in the slots of the set that can be made and change nothing.
 #[tactic(auto, using(crate::proofs::Alone::settled_none, crate::proofs::Alone::settled_then))]
-pub fn settle<M: Machine>(
+pub(super) fn settle<M: Machine>(
     machine: &M,
     slots: &[Option<usize>],
     tried: u64,
@@ -142,7 +142,7 @@ fn make_states<M: Machine>(
 }
 
 /// Makes the call in the configuration. Returns whether it did; else nothing changed.
-pub fn make_in<M: Machine>(
+pub(super) fn make_in<M: Machine>(
     machine: &M,
     config: &mut Config<M::State>,
     call: usize,
@@ -249,18 +249,19 @@ fn is_alone<M: Machine>(
     slots: &[Option<usize>],
     config: &Config<M::State>,
     slot: usize,
-) -> bool
+) -> Result<bool, AllocError>
     requires few { length slots.now ≤ 64 }
-    ensures { IsTrue result → IsAlone (M.Step machine.now) slots.now config.now slot }
+    ensures { IfOk result (λ alone. IsTrue alone
+        → IsAlone (M.Step machine.now) slots.now config.now slot) }
 {
     for at in 0..slots.len() {
         if let Some(other) = waits_beside(slots, config.waiting, slot, at) {
-            if !machine.is_blocked(&config.state, other) {
-                return false;
+            if !machine.is_blocked(&config.state, other)? {
+                return Ok(false);
             }
         }
     }
-    true
+    Ok(true)
 }
 
 /// Makes the call in the slot in place, where it waits, is known to be made first or to move before
@@ -282,7 +283,7 @@ fn make_first<M: Machine>(
         return Ok(false);
     }
     if !moves_first(machine, slots, config.waiting, slot)
-        && !is_alone(machine, slots, config, slot)
+        && !is_alone(machine, slots, config, slot)?
     {
         return Ok(false);
     }
@@ -304,7 +305,7 @@ fn waits_in_none<S>(configs: &[Config<S>], slot: usize) -> bool
 /// Closes the configurations in place, where that can be: the call in the slot waits in none of
 /// them, or there is one, in which it comes first. Calls that change nothing are made then. Returns
 /// whether it did; else nothing changed, and `close` goes on.
-pub fn close_in_place<M: Machine>(
+pub(super) fn close_in_place<M: Machine>(
     machine: &M,
     slots: &[Option<usize>],
     configs: &mut [Config<M::State>],
@@ -412,7 +413,7 @@ fn close_round<M: Machine>(
 
 /// Makes waiting calls until the one in this slot is made. Returns the configurations in which it
 /// is, or `None` where more than `MAX_CONFIGS` were to be followed.
-pub fn close<M: Machine>(
+pub(super) fn close<M: Machine>(
     alloc: Global,
     machine: &M,
     slots: &[Option<usize>],
@@ -470,7 +471,7 @@ fn drop_one<M: Machine>(
 
 /// The configurations in which the call in the slot, which waits there, is never made.
 #[tactic(auto, using(crate::proofs::Gathering::gathers_no_one))]
-pub fn dropped_all<M: Machine>(
+pub(super) fn dropped_all<M: Machine>(
     alloc: Global,
     machine: &M,
     configs: &[Config<M::State>],

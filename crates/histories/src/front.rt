@@ -100,7 +100,7 @@ fn lay_one<S>(links: &mut Vec<Link>, config: &mut Config<S>) -> Result<(), Alloc
 
 /// The same of each of the configurations.
 #[tactic(auto, using(crate::proofs::Lists::grows_none))]
-pub fn lay_all<S>(links: &mut Vec<Link>, configs: &mut [Config<S>]) -> Result<(), AllocError>
+pub(super) fn lay_all<S>(links: &mut Vec<Link>, configs: &mut [Config<S>]) -> Result<(), AllocError>
     ensures { OnOk result (AreLaid links.old.items links.new.items configs.old configs.new) }
 {
     for config in configs.iter_mut() {

@@ -124,7 +124,7 @@ const FEW: usize = 32;
 /// Configurations, each once. Where they are many, most are in chains by the calls that wait and
 /// the state.
 #[derive(Drop)]
-pub struct Gathered<M: Machine> {
+pub(super) struct Gathered<M: Machine> {
     configs: Vec<Config<M::State>>,
     heads: Vec<usize>,
     before: Vec<usize>,
@@ -144,14 +144,14 @@ impl<M: Machine> Model for Gathered<M> {
 
 impl<M: Machine> Gathered<M> {
     /// No configuration, with the capacity for so many.
-    pub fn with_capacity(alloc: Global, count: usize) -> Result<Self, AllocError>
+    pub(super) fn with_capacity(alloc: Global, count: usize) -> Result<Self, AllocError>
         ensures { IfOk result (λ gathered. gathered ≡ []) }
     {
         Ok(Gathered::of(alloc, Vec::with_capacity(alloc, count)?))
     }
 
     /// These configurations.
-    pub fn of(alloc: Global, configs: Vec<Config<M::State>>) -> Self
+    pub(super) fn of(alloc: Global, configs: Vec<Config<M::State>>) -> Self
         ensures { result ≡ configs.items }
     {
         Gathered {
@@ -162,7 +162,7 @@ impl<M: Machine> Gathered<M> {
     }
 
     /// The configurations.
-    pub fn into_configs(self) -> Vec<Config<M::State>>
+    pub(super) fn into_configs(self) -> Vec<Config<M::State>>
         ensures { result.items ≡ self }
     {
         let Gathered {
@@ -174,7 +174,7 @@ impl<M: Machine> Gathered<M> {
     }
 
     /// Whether these are more than are followed.
-    pub fn is_full(&self) -> bool
+    pub(super) fn is_full(&self) -> bool
         ensures { IsTrue result ↔ (4096 < length self.now) }
     {
         self.configs.len() > MAX_CONFIGS
@@ -228,7 +228,7 @@ fn is_known<M: Machine>(
 
 /// Adds a configuration, unless there is the same.
 #[tactic(auto, using(crate::proofs::Gathering::gathers_new))]
-pub fn add<M: Machine>(
+pub(super) fn add<M: Machine>(
     alloc: Global,
     machine: &M,
     gathered: &mut Gathered<M>,
@@ -252,7 +252,7 @@ pub fn add<M: Machine>(
 
 /// The first configurations, and of the others those that are not there yet.
 #[tactic(auto, using(crate::proofs::Gathering::gathers_no_one))]
-pub fn joined<M: Machine>(
+pub(super) fn joined<M: Machine>(
     alloc: Global,
     machine: &M,
     configs: Vec<Config<M::State>>,

@@ -19,5 +19,5 @@ pub use front::{Advance, Config, Event, Front, Link, MAX_CONFIGS, MAX_OPEN, orde
 pub use gather::start;
 pub use machine::{Left, Machine};
 pub use needed::{MAX_TRIED, calls_left_out, is_kept};
-pub use step::{advance, begin_anew, make_alone};
+pub use step::{advance, begin_anew};
 pub use window::{Cut, Stop, Verdict, Window, judge_windows, order_in};

@@ -40,16 +40,16 @@ pub trait Machine {
 
     /// Whether the call can be made in this state, and changes nothing in whatever state it is
     /// made, as a query or a call that was refused. Such a call is made at once. An answer of no is
-    /// always right: then more orders are followed.
-    fn is_idle(&self, state: &Self::State, call: usize) -> bool
-        ensures { IsTrue result → Step self.now state.now call state.now
-            × IsIdle (Step self.now) call };
+    /// always right: then more orders are followed. Where memory is refused, there is no answer.
+    fn is_idle(&self, state: &Self::State, call: usize) -> Result<bool, AllocError>
+        ensures { IfOk result (λ idle. IsTrue idle → Step self.now state.now call state.now
+            × IsIdle (Step self.now) call) };
 
     /// Whether the call cannot be made in this state. An answer of no is always right: then more
-    /// orders are followed.
-    fn is_blocked(&self, state: &Self::State, call: usize) -> bool
-        ensures { IsTrue result
-            → (new : Self.State) → ¬ (Step self.now state.now call new) };
+    /// orders are followed. Where memory is refused, there is no answer.
+    fn is_blocked(&self, state: &Self::State, call: usize) -> Result<bool, AllocError>
+        ensures { IfOk result (λ blocked. IsTrue blocked
+            → (new : Self.State) → ¬ (Step self.now state.now call new)) };
 
     /// Whether the first call, wherever it can be made right after the second, can be made right
     /// before it, and both leave the same: whether it is a left mover. An answer of no is always

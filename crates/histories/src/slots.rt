@@ -18,7 +18,7 @@ fn free_slot(slots: &[Option<usize>]) -> Option<usize>
 }
 
 /// The slot of the call.
-pub fn slot_of(slots: &[Option<usize>], call: usize) -> Option<usize>
+pub(super) fn slot_of(slots: &[Option<usize>], call: usize) -> Option<usize>
     ensures some { IfSome result (λ slot. (slot < length slots.now)
         × HasSlot slots.now slot call) }
     ensures none { IfNone result ((slot : ℕ) → HasSlot slots.now slot call → ⊥) }
@@ -27,7 +27,10 @@ pub fn slot_of(slots: &[Option<usize>], call: usize) -> Option<usize>
 }
 
 /// Gives the call a slot, or returns `None` where none is left.
-pub fn take_slot(slots: &mut Vec<Option<usize>>, call: usize) -> Result<Option<usize>, AllocError>
+pub(super) fn take_slot(
+    slots: &mut Vec<Option<usize>>,
+    call: usize,
+) -> Result<Option<usize>, AllocError>
     requires few { length slots.old.items ≤ 64 }
     ensures some { IfOk result (λ taken. IfSome taken
         (λ slot. TakesSlot slots.old.items call slot slots.new.items)) }
@@ -46,7 +49,7 @@ pub fn take_slot(slots: &mut Vec<Option<usize>>, call: usize) -> Result<Option<u
 }
 
 /// Makes the slot free.
-pub fn free(slots: &mut Vec<Option<usize>>, slot: usize)
+pub(super) fn free(slots: &mut Vec<Option<usize>>, slot: usize)
     requires { slot < length slots.old.items }
     ensures { FreesSlot slots.old.items slot slots.new.items }
 {
@@ -54,7 +57,7 @@ pub fn free(slots: &mut Vec<Option<usize>>, slot: usize)
 }
 
 /// Whether all slots are free.
-pub fn are_free(slots: &[Option<usize>]) -> bool
+pub(super) fn are_free(slots: &[Option<usize>]) -> bool
     ensures yes { IsTrue result → (slot call : ℕ) → HasSlot slots.now slot call → ⊥ }
     ensures no { IsFalse result → (slot : ℕ) × (call : ℕ) × HasSlot slots.now slot call }
 {
@@ -67,10 +70,10 @@ pub fn are_free(slots: &[Option<usize>]) -> bool
 }
 
 /// The set of all slots.
-pub const ALL: u64 = u64::MAX;
+pub(super) const ALL: u64 = u64::MAX;
 
 /// Whether the slot is in the set.
-pub fn has(set: u64, slot: usize) -> bool
+pub(super) fn has(set: u64, slot: usize) -> bool
     requires { slot < 64 }
     ensures { IsTrue result ↔ (bit_at set slot ≡ 1) }
 {
@@ -79,7 +82,7 @@ pub fn has(set: u64, slot: usize) -> bool
 
 /// The set without the slot.
 #[tactic(auto, unfolding(crate::specs::Frontier::cleared))]
-pub fn without(set: u64, slot: usize) -> u64
+pub(super) fn without(set: u64, slot: usize) -> u64
     requires { slot < 64 }
     ensures { result ≡ cleared set slot }
 {
@@ -88,7 +91,7 @@ pub fn without(set: u64, slot: usize) -> u64
 
 /// The set with the slot.
 #[tactic(auto, unfolding(crate::specs::Frontier::put))]
-pub fn with(set: u64, slot: usize) -> u64
+pub(super) fn with(set: u64, slot: usize) -> u64
     requires { slot < 64 }
     ensures { result ≡ put set slot }
 {

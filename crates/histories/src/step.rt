@@ -213,7 +213,7 @@ pub fn advance<M: Machine>(
 ///
 /// Where memory was refused, the front is of no history any more.
 #[tactic(auto, using(crate::proofs::Alone::made_none))]
-pub fn make_alone<M: Machine>(
+pub(super) fn make_alone<M: Machine>(
     machine: &M,
     front: &mut Front<M::State>,
     call: usize,

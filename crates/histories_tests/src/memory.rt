@@ -1,8 +1,12 @@
-//! Logs where memory is refused. With ample memory one is judged and drawn; where one request is
-//! refused (`bench/refuse_memory` does that), it is when that is tried again.
+//! Logs and calls where memory is refused. With ample memory one is judged and drawn; where one
+//! request is refused (`bench/refuse_memory` does that), it is when that is tried again.
 
+use super::overlapping::{Call, NONE_LISTED, ONE_LISTED, REGISTER_1, calls_of, new_service};
+use histories::Machine;
 use history_drawing::draw_log;
 use history_logs::logs::report_log;
+use service_conformance::conformance::Calls;
+use std::alloc::{AllocError, Global};
 use std::process::Abort;
 use std::test::Fail;
 use test_support::memory::may_be_refused;
@@ -53,5 +57,34 @@ fn a_log_is_judged_whole_or_not_at_all(rt: HostRuntime) -> Result<(), Fail> {
         Err(_) => report_log(rt.alloc(), LOG.as_bytes())?,
     };
     assert!(rt; text.as_slice() == REPORT.as_bytes());
+    Ok(())
+}
+
+/// A node is registered, and is listed, or is not.
+const CALLS: [Call; 3] = [REGISTER_1, ONE_LISTED, NONE_LISTED];
+
+/// Whether, once the node is registered, the list that has it changes nothing, and the list that
+/// has it not cannot be made.
+fn known(alloc: Global) -> Result<(bool, bool), AllocError> {
+    let calls = calls_of(alloc, &CALLS)?;
+    let machine = Calls {
+        alloc,
+        first: 0,
+        calls: &calls,
+    };
+    let mut state = new_service(alloc)?;
+    machine.make(&mut state, 0)?;
+    Ok((machine.is_idle(&state, 1)?, machine.is_blocked(&state, 2)?))
+}
+
+#[test]
+fn what_a_call_does_is_known_or_not_answered(rt: HostRuntime) -> Result<(), Fail> {
+    let first = known(rt.alloc());
+    assert!(rt; first.is_ok() || may_be_refused(&rt));
+    let found = match first {
+        Ok(found) => found,
+        Err(_) => known(rt.alloc())?,
+    };
+    assert_eq!(rt; found, (true, true));
     Ok(())
 }

@@ -41,11 +41,11 @@ enum Found {
 
 const LIST_1: &str = "list 1000000000000000000000001";
 
-const REGISTER_1: Call = ("register 1.0.0.1", None, "handle 0 0");
+pub(crate) const REGISTER_1: Call = ("register 1.0.0.1", None, "handle 0 0");
 
-const NONE_LISTED: Call = ("nodes", None, "list");
+pub(crate) const NONE_LISTED: Call = ("nodes", None, "list");
 
-const ONE_LISTED: Call = ("nodes", None, LIST_1);
+pub(crate) const ONE_LISTED: Call = ("nodes", None, LIST_1);
 
 /// A node is registered by a call that is never answered.
 const OPEN_1: Call = ("register 1.0.0.1", None, "");
@@ -295,19 +295,24 @@ fn found_on(
     Ok(Found::Left(front.configs.len()))
 }
 
-/// What becomes of a history.
-fn judged(alloc: Global, calls: &[JudgedCall], events: &[Event]) -> Result<Found, AllocError> {
+/// The new service.
+pub(crate) fn new_service(alloc: Global) -> Result<WatchedService, AllocError> {
     let settings = MessagingPatternSettings::Event(DynamicConfigSettings {
         number_of_listeners: 2,
         number_of_notifiers: 2,
     });
+    let service = ServiceCheck::new(alloc, &settings, 3, 7);
+    WatchedService::new(alloc, &service)
+}
+
+/// What becomes of a history.
+fn judged(alloc: Global, calls: &[JudgedCall], events: &[Event]) -> Result<Found, AllocError> {
     let machine = Calls {
         alloc,
         first: 0,
         calls,
     };
-    let service = ServiceCheck::new(alloc, &settings, 3, 7);
-    let states = [WatchedService::new(alloc, &service)?];
+    let states = [new_service(alloc)?];
     let mut front = start(alloc, &machine, &states)?;
     let found = found_on(alloc, &machine, &mut front, events);
     drop(front);

@@ -114,17 +114,17 @@ impl Machine for Recorded {
         }
     }
 
-    fn is_idle(&self, value: &u64, call: usize) -> bool {
+    fn is_idle(&self, value: &u64, call: usize) -> Result<bool, AllocError> {
         match self.calls.get(call) {
-            Some(access) => reads(access, *value),
-            None => false,
+            Some(access) => Ok(reads(access, *value)),
+            None => Ok(false),
         }
     }
 
-    fn is_blocked(&self, value: &u64, call: usize) -> bool {
+    fn is_blocked(&self, value: &u64, call: usize) -> Result<bool, AllocError> {
         match self.calls.get(call) {
-            Some(access) => reads_other(access, *value),
-            None => false,
+            Some(access) => Ok(reads_other(access, *value)),
+            None => Ok(false),
         }
     }
 

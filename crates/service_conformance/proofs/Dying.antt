@@ -3,7 +3,6 @@ use Rattle.service_conformance.proofs.Names.{Bool, List, Vec, ap, false, filter,
 use Rattle.iox2_container.proofs.Callable.{answers_by}
 use Rattle.iox2_container.proofs.SameEntries.{staying_by}
 use Rattle.iox2_dynamic.specs.declared.dynamic_config.answers.DeregisterNodeState.TheVariants as nodes
-use Rattle.service_descriptions.specs.declared.replay.machine.reply.Reply.TheVariants as reply
 use Rattle.iox2_container.proofs.Lists.{AllPairs-head, AllPairs-tail}
 use Rattle.iox2_dynamic.proofs.Keeping.{dead_kept, skipped_kept}
 use Rattle.service_conformance.specs.declared.conformance.line_reply.LineReply.TheVariants as line

@@ -112,10 +112,17 @@ module _ (first : ℕ) (calls : List Judged) (number : ℕ) where
     window_made (Ok false) new same = same
     window_made (Err e) new is = tt
 
-    pub window_idle : JudgedStep number call s s × IsIdleJudged number call
+    idle_there : JudgedStep number call s s × IsIdleJudged number call
         → WindowStep first calls s number s
         × IsIdle (WindowStep first calls) number
-    window_idle idle = grind (arith, one_call)
+    idle_there idle = grind (arith, one_call)
+
+    pub window_idle : (found : Result Bool AllocError)
+        → IfOk found
+        (λ idle. idle ≡ true → JudgedStep number call s s × IsIdleJudged number call)
+        → IfOk found (λ idle. idle ≡ true
+        → WindowStep first calls s number s × IsIdle (WindowStep first calls) number)
+    window_idle found = grind (arith, IfOk-weaker, idle_there)
 
   pub window_none : LacksNumber first calls number → (s : Watched)
       → AreEnough (λ new. WindowStep first calls s number new) []

@@ -58,7 +58,7 @@ pub use Rattle.line_streams.specs.OneWay.{listed_one, number_one}
 pub use Rattle.line_streams.specs.Spelling.{EndsNumber, OthersFit, Reads, Spelling, after, line_end, number, others_text, sequence}
 pub use Rattle.line_streams.specs.declared.phrase.LineEnd.TheVariants.{Bytes}
 pub use Rattle.service_conformance.specs.Alone.{Answered, Gives, IsBare, IsBounded, IsBoundedRegistry, added_role, handle_named, judged_of}
-pub use Rattle.service_conformance.specs.Calls.{AreRepliesOf, Call, CallStep, ChangesNothing, GivesBelow, HasNumber, HasWords, IsIdleCall, LacksNumber, LeadsOn, ServesCall, answered, at_first, call_of, handle_for, AreGivenBelow, request_command, CanAsk, is_query, seen_as}
+pub use Rattle.service_conformance.specs.Calls.{AreRepliesOf, Call, CallStep, ChangesNothing, GivesBelow, HasNumber, HasWords, IsIdleCall, LacksNumber, LeadsOn, ServesCall, answered, at_first, call_of, handle_for, AreGivenBelow, CanAsk, is_query, seen_as}
 pub use Rattle.service_conformance.specs.Dead.{after_dead, goes, is_kept, nodes_if, stays, without_node, without_ports}
 pub use Rattle.service_conformance.specs.Entries.{CanList, HasAt, IsAt, IsFreePosition, MayGive, Refuses, StandsAt, slot_entry, with_left}
 pub use Rattle.service_conformance.specs.Given.{Becomes, GivesNode, GivesNodes, GivesPort, GivesPorts, IsBefore, IsUnused, MayStand, StandsLast, UsedSo, with_last, with_nodes, with_ports, with_used}
@@ -81,7 +81,6 @@ pub use Rattle.service_conformance.specs.declared.conformance.possible.NextHandl
 pub use Rattle.service_conformance.specs.declared.conformance.possible.Part.{Part}
 pub use Rattle.service_conformance.specs.declared.conformance.possible.Possible.{Possible}
 pub use Rattle.service_conformance.specs.declared.conformance.possible.PossibleReplies.{PossibleReplies}
-pub use Rattle.service_conformance.specs.declared.conformance.request.Request.{Request}
 pub use Rattle.service_conformance.specs.declared.conformance.seen_reply.ReplyWord.{ReplyWord}
 pub use Rattle.service_conformance.specs.declared.conformance.seen_reply.SeenReply.{SeenReply}
 pub use Rattle.service_descriptions.specs.Steps.{CleanedUp, Cleans, ServesCount, ServesDead, ServesList, action_for, reply_of_owners as reply_of_state, Run, Serves, ServesAdd, ServesDeregister, ServesRegister, ServesRelease, ServiceStep, State, handle_in, named}

@@ -8,7 +8,6 @@ use Rattle.service_conformance.specs.declared.conformance.seen_reply.ReplyWord.T
 use Rattle.service_conformance.specs.declared.conformance.possible.Possible.TheVariants as possible
 use Rattle.service_conformance.proofs.Registries.{can_give, no_room, was_given, can_remove}
 use Rattle.service_conformance.proofs.Quiet.{untouching}
-use Rattle.iox2_dynamic.specs.declared.dynamic_config.answers.AttachError.TheVariants as refusal
 use Rattle.service_conformance.proofs.Taking.{given_at, has_role, lacks, may_give_at, ports_are, steps_at, Takes, taken_at}
 use Rattle.service_conformance.proofs.Taking.Place.{of_ports}
 use Rattle.iox2_container.specs.declared.container.registry.ReleaseState.TheVariants as state

@@ -1,7 +1,6 @@
 -- Steps do not depend on how often slots were touched.
 use Rattle.service_conformance.proofs.Names.{Bool, List, None, Option, Result, Some, [], ap, arith, inl, inr, ℕ, ◌∷◌, ◌≡◌, AddsPort, Changes, Cleans, Cleanup, Command, ContainerAddFailure, ContainerRemoveError, ContainerState, DeadStep, DeregisterNodeState, Description, First, Handle, IsRegistry, IsService, NodesAfter, OnSide, PortCleanupAction, PortDetails, Ports, RegistryState, ReleaseState, RemovesPort, Reply, Role, Run, Second, Serves, ServesAdd, ServesDead, ServesDeregister, ServesRegister, ServesRelease, Service, ServiceStep, Side, State, UniquePortId, container, named, of_side, other_side, ports_at_rest, quiet, quiet_state, untouched}
 use Rattle.iox2_container.specs.declared.container.registry.ContainerAddFailure.TheVariants as container
-use Rattle.iox2_container.specs.declared.container.registry.ContainerRemoveError.TheVariants as remove
 use Rattle.iox2_dynamic.specs.declared.dynamic_config.answers.DeregisterNodeState.TheVariants as nodes
 use Rattle.service_descriptions.specs.declared.replay.machine.command.Command.TheVariants as command
 use Rattle.service_descriptions.specs.declared.replay.machine.reply.Reply.TheVariants as reply

@@ -4,7 +4,6 @@ use Rattle.std.proofs.Common.{drop-cons, All, ◌==◌}
 use Rattle.line_streams.specs.Spelling.{listed}
 use Rattle.service_descriptions.specs.declared.replay.machine.reply.Reply.TheVariants as reply
 use Rattle.service_conformance.specs.declared.conformance.seen_reply.ReplyWord.TheVariants as word
-use Rattle.service_conformance.specs.declared.conformance.seen_reply.SeenReply.TheVariants as seen
 
 -- the ids of a list, each after a space
 abbrev pub ids_phrase : Spelling (List ℕ)

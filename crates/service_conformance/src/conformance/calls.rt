@@ -69,17 +69,17 @@ impl<'a> Machine for Calls<'a> {
     }
 
     #[tactic(auto, using(crate::proofs::Judged::window_idle))]
-    fn is_idle(&self, state: &WatchedService, call: usize) -> bool {
+    fn is_idle(&self, state: &WatchedService, call: usize) -> Result<bool, AllocError> {
         match call_at(self.calls, self.first, call) {
             Some(made) => made.is_idle(self.alloc, call, state),
-            None => false,
+            None => Ok(false),
         }
     }
 
-    fn is_blocked(&self, state: &WatchedService, call: usize) -> bool {
+    fn is_blocked(&self, state: &WatchedService, call: usize) -> Result<bool, AllocError> {
         match call_at(self.calls, self.first, call) {
             Some(made) => made.is_blocked(self.alloc, state),
-            None => false,
+            None => Ok(false),
         }
     }
 

@@ -277,25 +277,34 @@ impl JudgedCall {
 
     /// Whether it can be made in this state, and changes nothing in whatever state it is made. A no
     /// says nothing.
-    pub(super) fn is_idle(&self, alloc: Global, number: usize, state: &WatchedService) -> bool
-        ensures { IsTrue result
-            → JudgedStep number self.now state.now state.now × IsIdleJudged number self.now }
+    pub(super) fn is_idle(
+        &self,
+        alloc: Global,
+        number: usize,
+        state: &WatchedService,
+    ) -> Result<bool, AllocError>
+        ensures { IfOk result (λ idle. IsTrue idle
+            → JudgedStep number self.now state.now state.now × IsIdleJudged number self.now) }
     {
         match &self.what {
             What::Call(made) => made.is_idle(alloc, state.service()),
-            What::Starts(_, reply) => reply.is_none(),
-            What::Stops(start, reply) => may_stop(state, *start, reply),
+            What::Starts(_, reply) => Ok(reply.is_none()),
+            What::Stops(start, reply) => Ok(may_stop(state, *start, reply)),
         }
     }
 
     /// Whether it cannot be made in this state. A no says nothing.
-    pub(super) fn is_blocked(&self, alloc: Global, state: &WatchedService) -> bool
-        ensures { IsTrue result
-            → (number : ℕ) (new : Watched) → ¬ (JudgedStep number self.now state.now new) }
+    pub(super) fn is_blocked(
+        &self,
+        alloc: Global,
+        state: &WatchedService,
+    ) -> Result<bool, AllocError>
+        ensures { IfOk result (λ blocked. IsTrue blocked
+            → (number : ℕ) (new : Watched) → ¬ (JudgedStep number self.now state.now new)) }
     {
         match &self.what {
             What::Call(made) => made.is_blocked(alloc, state.service()),
-            What::Starts(_, _) | What::Stops(_, _) => false,
+            What::Starts(_, _) | What::Stops(_, _) => Ok(false),
         }
     }
 

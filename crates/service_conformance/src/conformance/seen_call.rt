@@ -230,41 +230,38 @@ impl SeenCall {
 
     /// Whether the call can be made in this state, and changes nothing in whatever state it is
     /// made. A no says nothing.
-    pub(super) fn is_idle(&self, alloc: Global, state: &ServiceCheck) -> bool
-        ensures { IsTrue result → IsIdleCall self.now state.now }
+    pub(super) fn is_idle(&self, alloc: Global, state: &ServiceCheck) -> Result<bool, AllocError>
+        ensures { IfOk result (λ idle. IsTrue idle → IsIdleCall self.now state.now) }
     {
         let Some(seen) = self.seen() else {
-            return self.is_open_query(state);
+            return Ok(self.is_open_query(state));
         };
         if !changes_nothing(seen) {
-            return false;
+            return Ok(false);
         }
-        let Ok(possible) = self.possible(alloc, state) else {
-            return false;
-        };
+        let possible = self.possible(alloc, state)?;
         let Some(_reply) = state.reply_seen(possible, seen) else {
-            return false;
+            return Ok(false);
         };
-        true
+        Ok(true)
     }
 
     /// Whether a reply was seen, and the call cannot be made in this state. A no says nothing.
-    pub(super) fn is_blocked(&self, alloc: Global, state: &ServiceCheck) -> bool
-        ensures { IsTrue result → (new : Service) → ¬ (CallStep self.now state.now new) }
+    pub(super) fn is_blocked(&self, alloc: Global, state: &ServiceCheck) -> Result<bool, AllocError>
+        ensures { IfOk result (λ blocked. IsTrue blocked
+            → (new : Service) → ¬ (CallStep self.now state.now new)) }
     {
         let Some(seen) = self.seen() else {
-            return false;
+            return Ok(false);
         };
-        let Ok(possible) = self.possible(alloc, state) else {
-            return false;
-        };
-        state.reply_seen(possible, seen).is_none()
+        let possible = self.possible(alloc, state)?;
+        Ok(state.reply_seen(possible, seen).is_none())
     }
 
     /// Whether the reply that was seen says that nothing changed, or the call is a query whose
     /// reply was not seen. Such a call changes nothing, in whatever state it is made. A no says
     /// nothing.
-    pub fn changes_nothing(&self) -> bool
+    pub(super) fn changes_nothing(&self) -> bool
         ensures { IsTrue result → ChangesNothing self.now }
     {
         let Some(seen) = &self.seen else {
