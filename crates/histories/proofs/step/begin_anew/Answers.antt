@@ -19,7 +19,8 @@ returns g c whole events olds sound f =
       quiet,
       (
         map (λ k. k.state) configs,
-        rw (put_back _ _ _ is.0 long) (fresh_anew Step _ _ _ _ f.table.few empty f.once is),
+        rw (put_back _ _ _ is.0 long) (fresh_anew Step _ _ _ _ f.table.few empty
+            (λ k has. (f.sound k has).only) f.once is),
         λ rest after all. split_anew _ _ _ _ _ _ sound quiet empty f _ after all,
       ),
     )
