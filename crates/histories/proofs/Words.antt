@@ -16,11 +16,11 @@ pub use Rattle.std.specs.Global.{Vec}
 pub use Rattle.std.specs.Int.{bit_at, bit_not, w64}
 pub use Rattle.std.specs.List.{Contains, remove}
 pub use Rattle.std.specs.Prelude.{filter, not}
-pub use Rattle.histories.specs.Advances.{AdvancesIn, Agrees, BeginsAnew, Ends, EndsOpen, IsAdvance, IsMadeAlone, IsQuiet, IsSameFront}
+pub use Rattle.histories.specs.Advances.{AdvancesIn, Agrees, BeginsAnew, Ends, EndsOpen, IsAdvance, IsCut, IsMadeAlone, IsQuiet, IsSameFront}
 pub use Rattle.histories.specs.Frontier.{AreComplete, AreSound, HasManyOpen, HasManyOrders, HasSlot, HaveCalls, IsFollowed, IsFrontOf, IsFrontier, IsIdle, IsLighter, IsSame, IsSound, IsTable, IsWaiting, LeadTo, Leaves, MovesBefore, Path, Runs, cleared, no_path, order_at, order_of, path_more, path_of, put, read}
 pub use Rattle.histories.specs.Gathering.{Adds, AreChained, AreEach, AreLaid, AreLaidIn, AreLinked, AreOther, AreTaken, ComesFirst, Finishes, FreesSlot, FromOne, Gathers, GoesFrom, GoesOn, Grows, HasMany, IsBegun, IsBeside, IsClosed, IsClosing, IsCopy, IsDone, IsDropped, IsFirst, IsKnown, IsLaid, IsLaidOut, IsLeft, IsMadeFirst, IsMadeFrom, IsMadeIn, IsNextAt, IsNextBeside, IsNextIn, IsOpened, IsSettled, IsSpot, IsUnderWay, IsUnlinked, MovesFirst, Settles, Spot, TakesSlot, WaitsInNone, chain_at, chain_of, ones, spot_of}
-pub use Rattle.histories.specs.Windows.{AgreesOn, AreIdle, AreNeeded, BeginsWindow, CutsAt, GoesOnTo, GoesTo, HasCut, IsBusyFrom, IsCut, IsFirstOrder, IsFrontAfter, IsMadeNext, IsOrder, IsRest, IsStop, IsStopAt, IsWellFormed, IsWindowOf, LeavesOutIdle, Precedes, VerdictsExclude, call_of, events_of, is_kept, states_of}
-pub use Rattle.histories.specs.Histories.{AreAll, AreEnough, CallsAloneAreRuns, EndsAt, Explains, HasEnded, IsAnswered, IsExplained, IsHistory, IsOpen, IsOver, Leads, MayFollow, StandsAt, begins, times}
+pub use Rattle.histories.specs.Windows.{AgreesOn, AreIdle, AreNeeded, BeginsWindow, CutsAt, GoesOnTo, GoesTo, HasCut, IsBusyFrom, IsFirstOrder, IsFrontAfter, IsMadeNext, IsOrder, IsRest, IsStop, IsStopAt, IsWellFormed, IsWindowOf, LeavesOutIdle, Precedes, VerdictsExclude, call_of, events_of, is_kept, states_of}
+pub use Rattle.histories.specs.Histories.{AreAll, AreEnough, CallsAloneAreRuns, EndsAt, Explains, HasEnded, IsAnswered, IsExplained, IsHistory, IsLedTo, IsOpen, IsOver, Leads, MayFollow, StandsAt, begins, times}
 pub use Rattle.histories.specs.declared.front.Event.{Event}
 pub use Rattle.histories.specs.declared.front.Event.TheVariants.{Begin, Crash, End}
 pub use Rattle.histories.specs.declared.front.Advance.{Advance}
