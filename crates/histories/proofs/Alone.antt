@@ -1,11 +1,11 @@
 -- Calls that are made at once: those that change nothing, and those that come first or overlap
 -- nothing. Where no call is open, what comes next is judged from the states.
-use Rattle.histories.proofs.Words.{[], ◌≡◌, ◌↔◌, slice_set, true, ℕ, zero, suc, ◌+◌, ◌<◌, List, ◌∷◌, ◌++◌, length, get_or, Option, refl, sym, ◌∙◌, ap, subst, arith, inl, inr, append_assoc, cases_lt, Event, Begin, End, Config, Link, AreAll, begins, times, Explains, Leads, HasSlot, IsFrontier, IsSound, IsTable, Path, order_at, order_of, path_more, path_of, Agrees, IsQuiet, IsMadeIn, CallsAloneAreRuns, ◌≤◌, AllPairs, IsIdle, IsSame, IsWaiting, cleared, IsCopy, IsSettled, Settles, Spot, WaitsInNone, spot_of, IsClosed, IsClosing, IsMadeFirst, IsNextAt, bit_at, map, IsExplained, AreEach, IsUnlinked}
+use Rattle.histories.proofs.Words.{[], ◌≡◌, ◌↔◌, slice_set, true, ℕ, zero, suc, ◌+◌, ◌<◌, List, ◌∷◌, ◌++◌, length, get_or, Option, refl, sym, ◌∙◌, ap, subst, arith, inl, inr, append_assoc, cases_lt, Event, Begin, End, Config, Link, AreAll, begins, times, Explains, Leads, HasSlot, IsFrontier, IsSound, IsTable, Path, order_at, order_of, path_more, path_of, Agrees, IsQuiet, IsMadeIn, CallsAloneAreRuns, ◌≤◌, AllPairs, IsIdle, IsSame, IsWaiting, cleared, IsCopy, IsSettled, Settles, Spot, WaitsInNone, spot_of, IsClosed, IsClosing, IsMadeFirst, IsNextAt, bit_at, map, AreEach, IsUnlinked, Contains, HaveCalls, IsLedTo}
 use Rattle.histories.proofs.Lists.{nothing_in, one_of_one, only, order_more, no_times, not_some, split_times, times-append, times-cons, times_one, times_other, times_same, contains_map_of, contains_of_map, each_from, each_to, enough}
 use Rattle.histories.specs.Histories.{calls_alone, in_order}
 use Rattle.histories.proofs.Events.{answered_now, begins_begin, begins_ends, begins_none, ended_now, ended_still, open_begin_cases, open_begin_now, open_end_before, open_end_other, sound_begin, sound_end, sound_none, quiet_empty}
 use Rattle.histories.proofs.Running.{leads_push, leads_split, lighter_idle, lighter_then, runs_then, runs_fewer, runs_nothing, cleared_same, slot_64}
-use Rattle.histories.proofs.Explaining.{explains_join, explains_split, behind_open, explains_begin, explains_end, explains_front, explains_open, explains_pushed}
+use Rattle.histories.proofs.Explaining.{behind_open, explains_begin, explains_end, explains_front, explains_open, explains_pushed}
 use Rattle.histories.proofs.Frontiers.{explains_none, no_calls, frontier_fresh, table_none}
 use Rattle.histories.proofs.Closing.{closing_begin, closing_more, goes_by, path_none, path_then}
 use Rattle.histories.proofs.Gathering.{gathers_new, gathers_none, settles_call, settles_one, settles_only}
@@ -141,10 +141,10 @@ module _ {S : Type 0} (Step : S → ℕ → S → Type 0) (slots : List (Option 
   -- a call alone is made in the one configuration
   pub frontier_alone : (links : List Link) (olds : List S) (config made : Config S)
       → AreAll (Step config.state c) (made.state ∷ [])
-      → path_of made ≡ path_more (path_of config) (c ∷ [])
+      → path_of made ≡ path_more (path_of config) (c ∷ []) → made.waiting ≡ config.waiting
       → IsFrontier Step links slots es olds (config ∷ [])
       → IsFrontier Step links slots (es ++ Begin c ∷ End c ∷ []) olds (made ∷ [])
-  frontier_alone links olds config made all path f =
+  frontier_alone links olds config made all path waits f =
       let is = f.sound config (0, omega arith, refl) in
       let order : order_of links made ≡ order_of links config ++ c ∷ [] =
       ap (λ (p : Path). order_at links p) path ∙ order_more _ _ _ in
@@ -155,6 +155,7 @@ module _ {S : Type 0} (Step : S → ℕ → S → Type 0) (slots : List (Option 
           explains = rw (← order) at (explains_alone _ _ _ _ _ _ _
               sound fresh is.explains (all.0 0 made.state (omega arith)));
           leaves = λ slot call has. absurd (empty slot call has);
+          only = rw waits is.only;
           within = omega (arith, is.within, ap (λ (p : Path). p.base) path);
         });
         complete = λ old order new from ex.
@@ -198,7 +199,7 @@ made_alone {M} {S} Step machine links slots configs config made c empty one is m
     rw parts.1 (
       frontier_alone (Step whole) slots events c sound fresh f.table empty links olds config made
           (all_as _ _ (made.state ∷ [])
-          (λ new. agrees c (open_begin_now _ _ sound fresh) config.state new) m.0) m.1
+          (λ new. agrees c (open_begin_now _ _ sound fresh) config.state new) m.0) m.1 m.2
           (rw parts.0 at f),
       omega arith,
     )
@@ -287,44 +288,35 @@ closed_already {S} Step slots slot configs none apart = record {
 }
 
 module _ {S : Type 0} (Step : S → ℕ → S → Type 0) where
-  -- what comes next is judged from the states of the configurations
-  pub split_anew : (links : List Link) (slots : List (Option ℕ)) (es : List Event) (olds : List S)
-      (configs : List (Config S)) → IsSound es → IsQuiet es
-      → ((slot call : ℕ) → HasSlot slots slot call → ⊥)
-      → IsFrontier Step links slots es olds configs → (rest : List Event) → IsSound rest
-      → IsSound (es ++ rest) → IsExplained Step (es ++ rest) olds
-      ↔ IsExplained Step rest (map (λ config. config.state) configs)
-  split_anew links slots es olds configs sound quiet empty f rest after whole = (
-    λ x.
-        let s = explains_split _ _ _ _ _ _ sound after whole quiet x.4 in
-        let lead = f.complete x.0 s.1 s.0 x.3 s.3 in
-        let config = lead.2.0 in
-        let same : s.0 ≡ config.state =
-        runs_nothing _ _ _ _ _ _ _ empty
-        lead.2.2.2 in (s.0, s.2, x.2, rw same (contains_map_of _ _ _ lead.2.1), s.4),
-    λ x.
-        let from = contains_of_map _ _ _ x.3 in
-        let is = f.sound from.0 from.1 in (
-          is.old,
-          order_of links from.0 ++ x.1,
-          x.2,
-          is.from,
-          explains_join _ _ _ _ _ _ _ _ sound whole is.explains (rw from.2 x.4),
-        ),
+  -- where no call is open, the configurations have the states that orders lead to
+  pub led_anew : (links : List Link) (slots : List (Option ℕ)) (es : List Event) (olds : List S)
+      (configs : List (Config S)) → ((slot call : ℕ) → HasSlot slots slot call → ⊥)
+      → IsFrontier Step links slots es olds configs → (s : S)
+      → Contains (map (λ config. config.state) configs) s ↔ IsLedTo Step es olds s
+  led_anew links slots es olds configs empty f s = (
+    λ has.
+        let from = contains_of_map _ _ _ has in
+        let is = f.sound from.0 from.1 in
+        (is.old, order_of links from.0, is.from, rw from.2 at is.explains),
+    λ to.
+        let lead = f.complete to.0 to.1 s to.2 to.3 in
+        rw (runs_nothing _ _ _ _ _ _ _ empty lead.2.2.2) (contains_map_of _ _ _ lead.2.1),
   )
 
   -- a front with new orders of no calls
   pub fresh_anew : (links : List Link) (slots : List (Option ℕ)) (configs unlinked : List (Config
       S)) → length slots ≤ 64 → ((slot call : ℕ) → HasSlot slots slot call → ⊥)
+      → ((k : Config S) → Contains configs k → HaveCalls slots k.waiting)
       → AllPairs (λ a b. ¬ (IsSame a b)) configs → AreEach IsUnlinked configs unlinked
       → IsFrontier Step links slots [] (map (λ config. config.state) configs) unlinked
-  fresh_anew links slots configs unlinked few empty once u =
+  fresh_anew links slots configs unlinked few empty only once u =
       let state_of : Config S → S = λ config. config.state in
       frontier_fresh Step links slots (map state_of configs) unlinked
       (table_none Step slots few empty) (λ k has.
       let from = each_from IsUnlinked configs unlinked k u has in (
         rw from.2.0 (contains_map_of state_of configs from.0 from.1),
         from.2.2,
+        rw from.2.1 (only from.0 from.1),
       )) (λ old has.
       let from = contains_of_map state_of configs old has in
       let one = each_to IsUnlinked configs unlinked from.0 u from.1 in

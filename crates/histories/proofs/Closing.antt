@@ -260,7 +260,7 @@ module _ {S : Type 0} (Step : S → ℕ → S → Type 0) (slots : List (Option 
               ap (λ w. ones w (length slots)) next.2.3,
               ones_le k.waiting made.waiting (length slots)
                   (λ i within. runs_fewer Step slots made.state made.state made.waiting k.waiting i
-                  is.calls few (omega (arith, within, few)) is.runs),
+                  is.calls is.runs),
             )
       ];
       once = f.adds.once cl.once;

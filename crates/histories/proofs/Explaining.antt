@@ -1,8 +1,8 @@
 -- What explains a history: with one event more, in two parts where no call is open between them,
 -- and by other steps.
-use Rattle.histories.proofs.Words.{[], ◌≡◌, ℕ, ◌+◌, ◌<◌, List, ◌∷◌, ◌++◌, get_or, arith, inl, inr, Option, append-nil, append_assoc, cases_lt, all_pairs_push, Event, Begin, End, begins, times, Explains, HasEnded, IsOpen, IsOver, Leads, Ends, IsSound, IsTable, Leaves, Runs, cleared, suc, refl, ap, ◌∙◌, AllPairs, map, IsExplained, IsQuiet}
+use Rattle.histories.proofs.Words.{[], ◌≡◌, ℕ, ◌+◌, ◌<◌, List, ◌∷◌, ◌++◌, get_or, arith, inl, inr, Option, append-nil, append_assoc, cases_lt, all_pairs_push, Event, Begin, End, begins, times, Explains, HasEnded, IsOpen, IsOver, Leads, Ends, IsSound, IsTable, Leaves, Runs, cleared, suc, refl, ap, ◌∙◌, AllPairs, map, IsExplained, IsQuiet, Contains, IsCut, IsLedTo, ◌↔◌}
 use Rattle.histories.proofs.Lists.{all_pairs_behind, all_pairs_front, apart, times-append, times-cons, times_at, times_one, times_other, times_same, times_none, all_pairs_back, all_pairs_join, contains_map_of}
-use Rattle.histories.proofs.Events.{answered_cases, answered_ended, answered_left, begin_no_end, begins-append, begins_begin, begins_cases, ends_one, over_cases, over_ended, over_now, over_left, ends_within, stands_within, begins_stands, ends_either, ends_left, stands_begins, stands_either, stands_right, answered_right, over_right}
+use Rattle.histories.proofs.Events.{answered_cases, answered_ended, answered_left, begin_no_end, begins-append, begins_begin, begins_cases, ends_one, over_cases, over_ended, over_now, over_left, ends_within, stands_within, begins_stands, ends_either, ends_left, stands_begins, stands_either, stands_right, answered_right, over_right, quiet_both}
 use Rattle.histories.proofs.Running.{leads_push, leaves_made, leads_join, leads_split}
 
 module _ {S : Type 0} (Step : S → ℕ → S → Type 0) where
@@ -276,6 +276,47 @@ module _ {S : Type 0} (Step : S → ℕ → S → Type 0) where
             )));
         leads = leads_join Step _ _ _ front back x.leads y.leads;
       }
+
+  -- where the states are those that orders lead to, what comes next is judged from them
+  pub cut_of : (es : List Event) (olds states : List S) → IsSound es → IsQuiet es
+      → ((s : S) → Contains states s ↔ IsLedTo Step es olds s) → IsCut Step olds es states
+  cut_of es olds states sound quiet led = record {
+    quiet = quiet;
+    led = led;
+    same = λ rest after whole. (
+      λ x.
+          let s = explains_split es rest x.0 x.2 x.1 sound after whole quiet x.4 in
+          (s.0, s.2, x.2, (led s.0).1 (x.0, s.1, x.3, s.3), s.4),
+      λ x.
+          let from = (led x.0).0 x.3 in (
+            from.0,
+            from.1 ++ x.1,
+            x.2,
+            from.2,
+            explains_join es rest from.0 x.0 x.2 from.1 x.1 sound whole from.3 x.4,
+          ),
+    );
+  }
+
+  -- one part after the other
+  pub cut_then : (es fs : List Event) (olds mids states : List S) → IsSound es → IsSound fs
+      → IsSound (es ++ fs) → IsCut Step olds es mids → IsCut Step mids fs states
+      → IsCut Step olds (es ++ fs) states
+  cut_then es fs olds mids states first second whole a b =
+      cut_of (es ++ fs) olds states whole (quiet_both es fs a.quiet b.quiet)
+      (λ s. (
+        λ has.
+            let back = (b.led s).0 has in
+            let front = (a.led back.0).0 back.2 in (
+              front.0,
+              front.1 ++ back.1,
+              front.2,
+              explains_join es fs front.0 back.0 s front.1 back.1 first whole front.3 back.3,
+            ),
+        λ to.
+            let parts = explains_split es fs to.0 s to.1 first second whole a.quiet to.3 in
+            (b.led s).1 (parts.0, parts.2, (a.led parts.0).1 (to.0, parts.1, to.2, parts.3), parts.4),
+      ))
 
 -- Of a call that has begun, each step is a step of the others too, between what is seen of states.
 module _ {S T : Type 0} (Step : S → ℕ → S → Type 0) (Other : T → ℕ → T → Type 0) (seen : S → T)

@@ -1,11 +1,11 @@
 -- Windows that grow by events, fronts that go on event by event, also while replies are still to
 -- come, and verdicts.
-use Rattle.histories.proofs.Words.{[], ◌≡◌, ◌↔◌, ℕ, ◌+◌, ◌<◌, List, ◌∷◌, ◌++◌, length, take, refl, sym, ◌∙◌, ap, arith, inl, inr, append_assoc, append-nil, true, Event, Begin, End, Crash, Advance, Front, AdvancesIn, BeginsAnew, IsAdvance, IsMadeAlone, IsSameFront, begins, IsExplained, IsHistory, IsOpen, StandsAt, IsFrontOf, IsSound, Stop, Window, AgreesOn, GoesTo, IsWellFormed, BeginsWindow, IsStop, IsStopAt, ◌≤◌, get_or, take_all, length-take-le, take-take, take-append_seam, get_or_from_slice_get, slice_get-get_or, Cut, IsMadeNext, CutsAt, Bool, false, drop, take-append-drop, take-append-add, HasSlot, GoesOnTo, IsFrontAfter, Precedes, IsBusyFrom, IsQuiet, cases_lt}
+use Rattle.histories.proofs.Words.{[], ◌≡◌, ◌↔◌, ℕ, ◌+◌, ◌<◌, List, ◌∷◌, ◌++◌, length, take, refl, sym, ◌∙◌, ap, arith, inl, inr, append_assoc, append-nil, true, Event, Begin, End, Crash, Advance, Front, AdvancesIn, BeginsAnew, IsAdvance, IsMadeAlone, IsSameFront, begins, IsExplained, IsHistory, IsOpen, StandsAt, IsFrontOf, IsSound, Stop, Window, AgreesOn, GoesTo, IsWellFormed, BeginsWindow, IsStop, IsStopAt, ◌≤◌, get_or, take_all, length-take-le, take-take, get_or_from_slice_get, slice_get-get_or, Cut, IsMadeNext, CutsAt, Bool, false, drop, take-append-drop, take-append-add, HasSlot, GoesOnTo, IsFrontAfter, Precedes, IsBusyFrom, IsQuiet, cases_lt, IsCut, subst}
 use Rattle.histories.specs.Frontier.{HasManyOrders}
 use Rattle.histories.specs.Windows.{LeadsTooFar}
-use Rattle.histories.proofs.Frontiers.{front_same}
-use Rattle.histories.proofs.Events.{begins_none, sound_none, open_parts, open_whole, quiet_both, sound_back, begins-append, stands_within, stands_take, open_inside}
-use Rattle.histories.proofs.Explaining.{explains_begin, explains_end}
+use Rattle.histories.proofs.Frontiers.{explains_none, front_same, no_calls}
+use Rattle.histories.proofs.Events.{begins_none, sound_none, open_parts, open_whole, begins-append, stands_within, open_inside}
+use Rattle.histories.proofs.Explaining.{cut_of, cut_then, explains_begin, explains_end}
 use Rattle.histories.proofs.Verdicts.{frontier_explained, frontier_refused, frontier_some, history_sound, numbered_none, formed_front, formed_history, formed_inside, formed_next, history_front, sound_formed, one_more}
 use Rattle.histories.specs.declared.front.Advance.TheVariants as advance
 use Rattle.histories.specs.declared.window.Stop.TheVariants as stop
@@ -80,10 +80,11 @@ module _ {S : Type 0} (Step : S → ℕ → S → Type 0) (olds : List S) where
       split = refl;
       begins = refl;
       states = olds;
-      cut = record {
-        quiet = λ c h. absurd (omega (arith, h, begins_none c));
-        same = λ rest s t. (λ x. x, λ x. x);
-      };
+      cut = cut_of Step [] olds olds sound_none (λ c h. absurd (omega (arith, h, begins_none c)))
+          (λ s. (
+            λ has. (s, [], has, explains_none Step s),
+            λ to. rw (no_calls Step to.0 s to.1 to.3).1 to.2,
+          ));
       front = f;
       some = frontier_some _ _ _ _ _ some f;
     };
@@ -169,34 +170,22 @@ module _ {S : Type 0} (Step : S → ℕ → S → Type 0) (olds : List S) where
     goes_anew new anew =
         let inside_sound : IsSound g.is.inside = formed_front _ _ (formed_more _ history_now) in
         let a = anew g.is.inside g.is.states inside_sound g.is.front in
-        let states = a.1.0 in
-        let left : IsExplained Step [] states =
-        (a.1.2 [] sound_none (rw (append-nil g.is.inside) inside_sound)).0
-        (rw (append-nil g.is.inside) explained_inside) in
-        let some : 0 < length states = omega (arith, left.3.1) in
+        let whole : IsSound (g.is.past ++ g.is.inside) = rw (← g.is.split) g.whole in
+        let x = explained_inside in
+        let left = (a.1.led x.2).1 (x.0, x.1, x.3, x.4) in
+        let some : 0 < length a.0 = omega (arith, left.1) in
         record {
           is = record {
             past = es;
             inside = [];
             split = sym (append-nil es);
             begins = refl;
-            states = states;
-            cut = record {
-              quiet = rw g.is.split (quiet_both _ _ g.is.cut.quiet a.0);
-              same = λ rest sound all.
-                  let whole = g.is.past ++ (g.is.inside ++ rest) in
-                  let is : es ++ rest ≡ whole =
-                  ap (λ (l : List Event). l ++ rest) g.is.split
-                  ∙ append_assoc g.is.past g.is.inside rest in
-                  let parts : IsSound whole = rw (← is) all in
-                  let behind : IsSound (g.is.inside ++ rest) =
-                  sound_back _ _ _ inside_sound sound parts in
-                  let first = g.is.cut.same (g.is.inside ++ rest) behind parts in
-                  let second = a.1.2 rest sound behind in
-                  rw is (λ x. second.0 (first.0 x), λ x. first.1 (second.1 x));
-            };
-            front = a.1.1;
-            some = frontier_some _ _ _ _ _ some a.1.1;
+            states = a.0;
+            cut = subst (λ (l : List Event). IsCut Step olds l a.0) (sym g.is.split)
+                (cut_then Step g.is.past g.is.inside olds g.is.states a.0 g.first
+                inside_sound whole g.is.cut a.1);
+            front = a.2;
+            some = frontier_some _ _ _ _ _ some a.2;
           };
           history = g.history;
           first = g.whole;

@@ -1,6 +1,6 @@
 -- The configurations after one event more, and what an event does to a front.
-use Rattle.histories.proofs.Words.{[], ◌≡◌, ◌≢◌, ℕ, ◌<◌, ◌≤◌, List, ◌∷◌, ◌++◌, length, refl, sym, ◌∙◌, ap, arith, inl, inr, Option, AllPairs, bit_at, Contains, Config, Link, Event, End, Crash, times, AreSound, Explains, Ends, HasManyOrders, HasSlot, IsFollowed, IsFrontier, IsLighter, IsSame, IsTable, LeadTo, Leaves, Path, cleared, no_path, order_at, order_of, path_of, FreesSlot, FromOne, Gathers, HasMany, IsClosed, IsDropped, IsFirst, IsMadeFrom, Spot, spot_of, ◌+◌, cases_lt, Begin, begins, AreComplete, IsSound, IsWaiting, Runs, path_more, put, IsFrontOf, IsOpened, Settles, TakesSlot, AreLaidIn, Finishes, IsLeft, Advance, Front, AdvancesIn, Agrees, EndsOpen, IsSameFront}
-use Rattle.histories.proofs.Running.{bit_cases, cleared_other, cleared_same, slot_64, slot_within, cleared_put, put_other, put_same, lighter_cleared, runs_fewer, runs_in, runs_without, lighter_without, leads_split, leaves_run, runs_lighter, runs_order, runs_then}
+use Rattle.histories.proofs.Words.{[], ◌≡◌, ◌≢◌, ℕ, ◌<◌, ◌≤◌, List, ◌∷◌, ◌++◌, length, refl, sym, ◌∙◌, ap, arith, inl, inr, Option, AllPairs, bit_at, bit_at-zero, Contains, Config, Link, Event, End, Crash, times, AreSound, Explains, Ends, HasManyOrders, HasSlot, HaveCalls, IsFollowed, IsFrontier, IsLighter, IsSame, IsTable, LeadTo, Leaves, Path, cleared, no_path, order_at, order_of, path_of, FreesSlot, FromOne, Gathers, HasMany, IsClosed, IsDropped, IsFirst, IsMadeFrom, Spot, spot_of, ◌+◌, cases_eq, cases_lt, Begin, begins, AreComplete, IsSound, IsWaiting, Runs, path_more, put, IsFrontOf, IsOpened, Settles, TakesSlot, AreLaidIn, Finishes, IsLeft, Advance, Front, AdvancesIn, Agrees, EndsOpen, IsSameFront}
+use Rattle.histories.proofs.Running.{bit_cases, cleared_le, cleared_other, cleared_same, have_fewer, slot_64, slot_within, cleared_put, put_other, put_same, lighter_cleared, runs_fewer, runs_in, runs_without, lighter_without, leads_split, leaves_run, runs_lighter, runs_order, runs_then}
 use Rattle.histories.proofs.Lists.{not_some, times_none, no_times, split_times, times-append, times-cons, times_one, times_same, nothing_in, order_more, order_none, frontier_laid}
 use Rattle.histories.proofs.Events.{answered_now, begins_none, freed_before, table_end, begins_begin, table_begin, taken_cases, taken_other, taken_still, ends_one}
 use Rattle.histories.proofs.Explaining.{explains_end, explains_open, explains_run, behind_open, explains_begin, explains_front, explains_without}
@@ -25,6 +25,7 @@ module _ {S : Type 0} (Step : S → ℕ → S → Type 0) where
         from = is.from;
         explains = rw order more.0;
         leaves = rw order more.1;
+        only = have_fewer _ _ _ (λ i. runs_fewer _ _ _ _ _ _ i _ made.2.1) is.only;
         within = omega (arith, is.within, ap (λ (p : Path). p.base) made.2.2);
       }
 
@@ -33,6 +34,12 @@ module _ {S : Type 0} (Step : S → ℕ → S → Type 0) where
     leaves_freed : (order : List ℕ) (rest : ℕ) → Leaves slots order rest → Leaves more order rest
     leaves_freed order rest leaves slot call has =
         leaves slot call (freed_before _ _ _ _ _ frees has).1
+
+    have_freed : (set : ℕ) → bit_at set t ≡ 0 → HaveCalls slots set → HaveCalls more set
+    have_freed set gone have slot some =
+        let at = have slot some in
+        let ne : slot ≢ t = λ e. absurd (omega (arith, some, gone, ap (λ x. bit_at set x) e)) in
+        (at.0, frees.others slot ne ∙ at.1)
 
     -- the same leads on without the slot
     leads_freed : (configs : List (Config S)) (new : S) (rest : ℕ)
@@ -69,6 +76,7 @@ module _ {S : Type 0} (Step : S → ℕ → S → Type 0) where
               explains = explains_end Step es e is.old k.state (order_of links k) c ends
                   (λ is_end. omega (arith, is.leaves t c here, closed.1)) is.explains;
               leaves = leaves_freed (order_of links k) k.waiting is.leaves;
+              only = have_freed k.waiting closed.1 is.only;
               within = is.within;
             }
 
@@ -105,6 +113,8 @@ module _ {S : Type 0} (Step : S → ℕ → S → Type 0) where
                   explains = rw (order, drop.1.0) (explains_end _ _ _ _ _ _ _
                       (inr refl) (λ is_end. absurd (cc)) is.explains);
                   leaves = λ slot call has. grind (arith, freed_before, cleared_other, slot_64);
+                  only = rw drop.1.1 (have_freed _ (cleared_same _ _ (slot_64 _ _ _ few here))
+                      (have_fewer _ _ _ (cleared_le from.waiting t) is.only));
                   within = omega (arith, is.within, ap (λ (p : Path). p.base) drop.1.2);
                 }
 
@@ -134,7 +144,7 @@ module _ {S : Type 0} (Step : S → ℕ → S → Type 0) where
                       let there : bit_at from.waiting t ≡ 1 = grind (
                         arith,
                         bit_cases,
-                        runs_fewer Step slots from.state new from.waiting fewer t l.2.0 few h l.2.2,
+                        runs_fewer Step slots from.state new from.waiting fewer t l.2.0 l.2.2,
                       ) in
                       leads_found _ _ _ _ _ _ _ _ _ _ d (from, l.1, (there, (refl, refl, refl)))
                       (runs_without _ _ _ _ _ _ _ _ few h some l.2.2)
@@ -190,7 +200,8 @@ module _ {S : Type 0} (Step : S → ℕ → S → Type 0) where
   -- configurations of orders of no calls, where no call is open
   pub frontier_fresh : (links : List Link) (slots : List (Option ℕ)) (olds : List S)
       (configs : List (Config S)) → IsTable [] slots
-      → ((k : Config S) → Contains configs k → Contains olds k.state × (path_of k ≡ no_path))
+      → ((k : Config S) → Contains configs k
+      → Contains olds k.state × (path_of k ≡ no_path) × HaveCalls slots k.waiting)
       → ((old : S) → Contains olds old → (k : Config S) × Contains configs k × (k.state ≡ old))
       → AllPairs (λ a b. ¬ (IsSame a b)) configs → IsFrontier Step links slots [] olds configs
   frontier_fresh links slots olds configs table from all once = record {
@@ -203,6 +214,7 @@ module _ {S : Type 0} (Step : S → ℕ → S → Type 0) where
           explains = rw order (explains_none _);
           leaves = λ slot call here.
               absurd (omega (arith, (table.each slot call here).0, begins_none call));
+          only = is.2;
           within = omega (arith, ap (λ (p : Path). p.base) is.1);
         };
     complete = λ old order new has ex.
@@ -239,7 +251,12 @@ module _ {S : Type 0} (Step : S → ℕ → S → Type 0) where
       (λ slot call has. absurd (omega (arith, slot_within [] slot call has))))
       (λ k has. elim (g.adds.sound k has) [
         | inl none ↦ absurd (nothing_in _ none)
-        | inr found ↦ (rw found.2.0 found.1, found.2.2)
+        | inr found ↦ (
+          rw found.2.0 found.1,
+          found.2.2,
+          λ i some.
+              absurd (omega (arith, some, ap (λ w. bit_at w i) found.2.1, bit_at-zero i)),
+        )
       ]) (λ old has.
       let spot : Spot S = record { state = old; waiting = 0; made = no_path } in
       let k = g.complete spot (old, has, (refl, refl, refl)) in (k.0, k.1, k.2.0))
@@ -255,6 +272,15 @@ module _ {S : Type 0} (Step : S → ℕ → S → Type 0) where
         → Leaves more order (put rest t)
     leaves_put order rest none leaves slot call has =
         grind (arith, taken_cases, bit_at, put_same, put_other)
+
+    have_put : (set : ℕ) → HaveCalls slots set → HaveCalls more (put set t)
+    have_put set have i some =
+        elim (cases_eq i t) [
+          | inl e ↦ (c, rw e takes.has)
+          | inr ne ↦
+              let at = have i (omega (arith, some, put_other set t i takes.within ne)) in
+              (at.0, taken_still _ _ _ _ _ _ takes at.1)
+        ]
 
     runs_put : (old new : S) (waiting rest : ℕ) (calls : List ℕ)
         → Runs Step slots old waiting calls new rest
@@ -320,6 +346,8 @@ module _ {S : Type 0} (Step : S → ℕ → S → Type 0) where
                   from = is.from;
                   explains = rw order now.0;
                   leaves = rw order now.1;
+                  only = have_fewer _ _ _ (λ i. runs_fewer _ _ _ _ _ _ i _ run)
+                      (have_put _ is.only);
                   within = omega (arith, is.within, ap (λ (p : Path). p.base) path);
                 }
           ]

@@ -1,12 +1,12 @@
 -- Histories of which calls are left out, and the states with which a window begins.
-use Rattle.histories.proofs.Words.{[], ◌≡◌, ℕ, zero, suc, ◌<◌, ◌≤◌, Bool, true, false, eqb, List, ◌∷◌, take, refl, ap, arith, inl, inr, filter, cond_both, eqb_tells, AllPairs-filter, Event, Begin, End, Crash, Explains, HasEnded, IsAnswered, IsExplained, IsOver, Leads, StandsAt, LeavesOutIdle, call_of, events_of, ◌++◌, length, length-append, get_or, ◌∙◌, subst, take_all, slice_get-get_or, Ends, IsHistory, IsOpen, IsWellFormed, ◌+◌, Option, sym, append-nil, Contains, set, replicate, nil_from_length, get_or-set_other, set-get_or, set-set, get_or_past, get_or-replicate, length-replicate, Config, Link, HasSlot, IsFrontOf, IsFrontier, IsIdle, Window, states_of, AreIdle, IsRest, is_kept, IsCut, IsWindowOf, cases_eq, cases_lt, not-false, Advance, Front, AdvancesIn, IsAdvance}
+use Rattle.histories.proofs.Words.{[], ◌≡◌, ℕ, zero, suc, ◌<◌, ◌≤◌, Bool, true, false, eqb, List, ◌∷◌, take, refl, ap, arith, inl, inr, filter, cond_both, eqb_tells, AllPairs-filter, Event, Begin, End, Crash, Explains, HasEnded, IsAnswered, IsExplained, IsOver, Leads, StandsAt, LeavesOutIdle, call_of, events_of, ◌++◌, length, length-append, get_or, ◌∙◌, subst, take_all, slice_get-get_or, Ends, IsHistory, IsOpen, IsWellFormed, ◌+◌, sym, append-nil, set, replicate, nil_from_length, get_or-set_other, set-get_or, set-set, get_or_past, get_or-replicate, length-replicate, HasSlot, IsFrontOf, IsIdle, IsSound, Window, states_of, AreIdle, IsRest, is_kept, IsCut, IsWindowOf, cases_eq, cases_lt, not-false, Advance, Front, AdvancesIn, IsAdvance}
 use Rattle.histories.specs.Histories.{begins, times}
-use Rattle.histories.proofs.Lists.{times-cons, times_none, times_other, contains_map_of, contains_of_map}
+use Rattle.histories.proofs.Lists.{times-cons, times_none, times_other}
 use Rattle.histories.specs.Windows.{OrdersExplainTheRest, RefusedRestsRefuse}
-use Rattle.histories.proofs.Events.{stands_front, stands_take, begins_none}
-use Rattle.histories.proofs.Running.{runs_nothing}
-use Rattle.histories.proofs.Verdicts.{formed_history, formed_inside, sound_formed, sound_take, one_more, agrees_same, frontier_refused}
-use Rattle.histories.proofs.Frontiers.{explains_none, no_calls}
+use Rattle.histories.proofs.Events.{stands_front, stands_take, begins_none, sound_none}
+use Rattle.histories.proofs.Verdicts.{formed_history, formed_inside, sound_formed, sound_take, one_more, agrees_same, frontier_refused, history_sound}
+use Rattle.histories.proofs.Alone.{led_anew}
+use Rattle.histories.proofs.Explaining.{cut_of, cut_then}
 use Rattle.histories.specs.declared.front.Advance.TheVariants as advance
 
 module _ (kept : ℕ → Bool) where
@@ -155,49 +155,23 @@ formed_rest kept es formed p e at =
           ),
     )
 
-module _ {S : Type 0} (Step : S → ℕ → S → Type 0) (links : List Link) (slots : List (Option ℕ))
-    (olds : List S) (configs : List (Config S)) (f : IsFrontier Step links slots [] olds configs)
-  where
-    state_before : (s : S) → Contains (states_of configs) s → Contains olds s
-    state_before s has =
-        let k = contains_of_map _ _ _ has in
-        let is = f.sound k.0 k.1 in
-        subst (λ x. Contains olds x) (sym (no_calls _ _ _ _ is.explains).1 ∙ k.2) is.from
-
-    no_slot : (slot call : ℕ) → HasSlot slots slot call → ⊥
-    no_slot slot call has = absurd (omega (arith, (f.table.each slot call has).0, begins_none call))
-
-    state_after : (s : S) → Contains olds s → Contains (states_of configs) s
-    state_after s has =
-        let l = (f.complete s [] s has (explains_none _ _)).2 in
-        rw (runs_nothing Step _ _ _ l.0.waiting l.2.1 l.2.0 no_slot l.2.2)
-        (contains_map_of _ _ _ l.1)
-
-module _ {S : Type 0} (Step : S → ℕ → S → Type 0) where
-  explained_from : (es : List Event) (olds news : List S)
-      → ((s : S) → Contains olds s → Contains news s) → IsExplained Step es olds
-      → IsExplained Step es news
-  explained_from es olds news all x = (x.0, x.1, x.2, all x.0 x.3, x.4)
-
-  cut_same : (olds : List S) (past : List Event) (one other : List S)
-      → ((s : S) → Contains one s → Contains other s)
-      → ((s : S) → Contains other s → Contains one s)
-      → IsCut Step olds past one → IsCut Step olds past other
-  cut_same olds past one other to from cut = grind (arith, explained_from)
-
-  -- where the events end in a window that begins after them, they have left its states
-  pub cut_states : (olds : List S) (es : List Event) (w : Window S) → IsWindowOf Step olds es w
-      → w.begin ≡ length es → (states : List S) → states ≡ states_of w.front.configs.items
-      → IsCut Step olds es states
-  cut_states olds es w is begins states are =
-      let none : is.inside ≡ [] =
-      nil_from_length is.inside
-      (omega (arith, begins, is.begins, ap length is.split, length-append is.past is.inside)) in
-      let all : is.past ≡ es =
-      sym (is.split ∙ (ap (λ (l : List Event). is.past ++ l) none ∙ append-nil is.past)) in
-      let f : IsFrontOf Step w.front [] is.states = rw (← none) is.front in
-      rw are (rw all at (cut_same _ _ _ _ (state_after _ _ _ _ _ f)
-      (state_before _ _ _ _ _ f) is.cut))
+-- where the events end in a window that begins after them, they have left its states
+pub cut_states : {S : Type 0} (Step : S → ℕ → S → Type 0) (olds : List S) (es : List Event)
+    (w : Window S) → IsHistory es → IsWindowOf Step olds es w → w.begin ≡ length es
+    → (states : List S) → states ≡ states_of w.front.configs.items → IsCut Step olds es states
+cut_states {S} Step olds es w history is begins states are =
+    let none : is.inside ≡ [] =
+    nil_from_length is.inside
+    (omega (arith, begins, is.begins, ap length is.split, length-append is.past is.inside)) in
+    let all : is.past ++ [] ≡ es =
+    sym (is.split ∙ ap (λ (l : List Event). is.past ++ l) none) in
+    let sound : IsSound (is.past ++ []) = rw all (history_sound es history).0 in
+    let f : IsFrontOf Step w.front [] is.states = rw (← none) is.front in
+    let empty : (slot call : ℕ) → HasSlot w.front.slots.items slot call → ⊥ =
+    λ slot call has. absurd (omega (arith, (f.table.each slot call has).0, begins_none call)) in
+    rw (are, ← all) (cut_then Step is.past [] olds is.states _ (rw (append-nil is.past) at sound)
+    sound_none sound is.cut (cut_of Step [] is.states _ sound_none
+    (λ c h. absurd (omega (arith, h, begins_none c))) (led_anew Step _ _ _ _ _ empty f)))
 
 pub left_out_is : (calls : List Bool) (call : ℕ) → is_kept calls call ≡ false
     → get_or calls call false ≡ true

@@ -1,5 +1,5 @@
 -- Sets of slots, and calls that wait there and are made.
-use Rattle.histories.proofs.Words.{[], ◌≡◌, ◌≢◌, ℕ, zero, suc, ◌<◌, ◌≤◌, ◌⊎◌, List, length, ◌*◌, ◌^◌, ◌%◌, ◌-◌, sym, ◌∙◌, arith, inl, inr, Option, bit_at, bit_not, w64, cases_eq, cases_lt, get_or_past, bit_at-lt, bit_at_above, bit_at_and, bit_at_clear_other, bit_at_clear_same, bit_at_set_other, bit_at_set_same, same_from_bits, and_assoc, and_comm, HasSlot, ◌∷◌, ◌++◌, refl, ap, subst, append-nil, append_assoc, times, Leads, IsBeside, IsIdle, IsLighter, IsWaiting, Leaves, MovesBefore, Runs, cleared, ◌+◌}
+use Rattle.histories.proofs.Words.{[], ◌≡◌, ◌≢◌, ℕ, zero, suc, ◌<◌, ◌≤◌, ◌⊎◌, List, length, ◌*◌, ◌^◌, ◌%◌, ◌-◌, sym, ◌∙◌, arith, inl, inr, Option, bit_at, bit_not, w64, cases_eq, cases_lt, get_or_past, bit_at-lt, bit_at_above, bit_at_and, bit_at_clear_other, bit_at_clear_same, bit_at_set_other, bit_at_set_same, same_from_bits, and_assoc, and_comm, HasSlot, ◌∷◌, ◌++◌, refl, ap, subst, append-nil, append_assoc, times, Leads, HaveCalls, IsBeside, IsIdle, IsLighter, IsWaiting, Leaves, MovesBefore, Runs, cleared, ◌+◌}
 use Rattle.histories.specs.Frontier.{cleared, put}
 use Rattle.histories.proofs.Lists.{less_of, times-append, times-cons, times_one, times_other}
 use Rattle.histories.specs.Gathering.{ones}
@@ -70,13 +70,17 @@ pub bit_none : (set slot : ℕ) → (bit_at set slot ≡ 1 → ⊥) → bit_at s
 bit_none set slot never = grind (arith, bit_cases)
 
 -- in a set without a slot there is nothing more
-pub cleared_le : (set slot other : ℕ) → slot < 64 → other < 64
-    → bit_at (cleared set slot) other ≤ bit_at set other
-cleared_le set slot other h k =
-    elim (cases_eq other slot) [
-      | inl e ↦ grind (arith, cleared_same)
-      | inr ne ↦ omega (arith, cleared_other set slot other h k ne)
-    ]
+pub cleared_le : (set slot other : ℕ) → bit_at (cleared set slot) other ≤ bit_at set other
+unfolding cleared
+cleared_le set slot other =
+    omega (arith, bit_at_and set (bit_not w64 (1 * 2 ^ slot % 2 ^ 64)) other)
+
+-- fewer slots than those of calls
+pub have_fewer : (slots : List (Option ℕ)) (fewer set : ℕ)
+    → ((slot : ℕ) → bit_at fewer slot ≤ bit_at set slot) → HaveCalls slots set
+    → HaveCalls slots fewer
+have_fewer slots fewer set le have slot some =
+    have slot (omega (arith, some, le slot, bit_at-lt set slot))
 
 -- a slot that a call has is there
 pub slot_within : (slots : List (Option ℕ)) (slot call : ℕ) → HasSlot slots slot call
@@ -324,15 +328,13 @@ module _ {S : Type 0} (Step : S → ℕ → S → Type 0) where
 
   -- bits of those that wait only go
   pub runs_fewer : (slots : List (Option ℕ)) (old new : S) (waiting rest t : ℕ) (calls : List ℕ)
-      → length slots ≤ 64 → t < 64 → Runs Step slots old waiting calls new rest
-      → bit_at rest t ≤ bit_at waiting t
-  runs_fewer slots old new waiting rest t [] few h run = omega (arith, ap (λ w. bit_at w t) run.1)
-  runs_fewer slots old new waiting rest t (call ∷ calls) few h run =
-      grind (
+      → Runs Step slots old waiting calls new rest → bit_at rest t ≤ bit_at waiting t
+  runs_fewer slots old new waiting rest t [] run = omega (arith, ap (λ w. bit_at w t) run.1)
+  runs_fewer slots old new waiting rest t (call ∷ calls) run =
+      omega (
         arith,
-        cleared_le,
-        slot_64,
-        runs_fewer slots run.2.0 new (cleared waiting run.0) rest t calls few h run.2.2,
+        cleared_le waiting run.0 t,
+        runs_fewer slots run.2.0 new (cleared waiting run.0) rest t calls run.2.2,
       )
 
   -- a call that waits in the end need not wait for the others to be made

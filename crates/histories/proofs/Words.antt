@@ -9,18 +9,18 @@ pub use Rattle.std.proofs.lemmas.List.Elements.{All-contains, Contains-append_le
 pub use Rattle.std.proofs.lemmas.List.Kept.{AllPairs-filter}
 pub use Rattle.std.proofs.lemmas.List.Quantifiers.{all_pairs_push}
 pub use Rattle.std.proofs.lemmas.Nat.{and_assoc, and_comm}
-pub use Rattle.std.proofs.lemmas.Nat.Bits.{bit_at-lt, bit_at_above, bit_at_and, bit_at_clear_other, bit_at_clear_same, bit_at_set_other, bit_at_set_same, same_from_bits}
+pub use Rattle.std.proofs.lemmas.Nat.Bits.{bit_at-lt, bit_at-zero, bit_at_above, bit_at_and, bit_at_clear_other, bit_at_clear_same, bit_at_set_other, bit_at_set_same, same_from_bits}
 pub use Rattle.std.proofs.lemmas.Option.{get_or_from_slice_get, slice_get-get_or, slice_get_within}
 pub use Rattle.std.proofs.lemmas.Result.{IfOk-weaker, on_ok_weaker}
 pub use Rattle.std.specs.Global.{Vec}
 pub use Rattle.std.specs.Int.{bit_at, bit_not, w64}
 pub use Rattle.std.specs.List.{Contains, remove}
 pub use Rattle.std.specs.Prelude.{filter, not}
-pub use Rattle.histories.specs.Advances.{AdvancesIn, Agrees, BeginsAnew, Ends, EndsOpen, IsAdvance, IsMadeAlone, IsQuiet, IsSameFront}
-pub use Rattle.histories.specs.Frontier.{AreComplete, AreSound, HasManyOpen, HasManyOrders, HasSlot, IsFollowed, IsFrontOf, IsFrontier, IsIdle, IsLighter, IsSame, IsSound, IsTable, IsWaiting, LeadTo, Leaves, MovesBefore, Path, Runs, cleared, no_path, order_at, order_of, path_more, path_of, put, read}
+pub use Rattle.histories.specs.Advances.{AdvancesIn, Agrees, BeginsAnew, Ends, EndsOpen, IsAdvance, IsCut, IsMadeAlone, IsQuiet, IsSameFront}
+pub use Rattle.histories.specs.Frontier.{AreComplete, AreSound, HasManyOpen, HasManyOrders, HasSlot, HaveCalls, IsFollowed, IsFrontOf, IsFrontier, IsIdle, IsLighter, IsSame, IsSound, IsTable, IsWaiting, LeadTo, Leaves, MovesBefore, Path, Runs, cleared, no_path, order_at, order_of, path_more, path_of, put, read}
 pub use Rattle.histories.specs.Gathering.{Adds, AreChained, AreEach, AreLaid, AreLaidIn, AreLinked, AreOther, AreTaken, ComesFirst, Finishes, FreesSlot, FromOne, Gathers, GoesFrom, GoesOn, Grows, HasMany, IsBegun, IsBeside, IsClosed, IsClosing, IsCopy, IsDone, IsDropped, IsFirst, IsKnown, IsLaid, IsLaidOut, IsLeft, IsMadeFirst, IsMadeFrom, IsMadeIn, IsNextAt, IsNextBeside, IsNextIn, IsOpened, IsSettled, IsSpot, IsUnderWay, IsUnlinked, MovesFirst, Settles, Spot, TakesSlot, WaitsInNone, chain_at, chain_of, ones, spot_of}
-pub use Rattle.histories.specs.Windows.{AgreesOn, AreIdle, AreNeeded, BeginsWindow, CutsAt, GoesOnTo, GoesTo, HasCut, IsBusyFrom, IsCut, IsFirstOrder, IsFrontAfter, IsMadeNext, IsOrder, IsRest, IsStop, IsStopAt, IsWellFormed, IsWindowOf, LeavesOutIdle, Precedes, VerdictsExclude, call_of, events_of, is_kept, states_of}
-pub use Rattle.histories.specs.Histories.{AreAll, AreEnough, CallsAloneAreRuns, EndsAt, Explains, HasEnded, IsAnswered, IsExplained, IsHistory, IsOpen, IsOver, Leads, MayFollow, StandsAt, begins, times}
+pub use Rattle.histories.specs.Windows.{AgreesOn, AreIdle, AreNeeded, BeginsWindow, CutsAt, GoesOnTo, GoesTo, HasCut, IsBusyFrom, IsFirstOrder, IsFrontAfter, IsMadeNext, IsOrder, IsRest, IsStop, IsStopAt, IsWellFormed, IsWindowOf, LeavesOutIdle, Precedes, VerdictsExclude, call_of, events_of, is_kept, states_of}
+pub use Rattle.histories.specs.Histories.{AreAll, AreEnough, CallsAloneAreRuns, EndsAt, Explains, HasEnded, IsAnswered, IsExplained, IsHistory, IsLedTo, IsOpen, IsOver, Leads, MayFollow, StandsAt, begins, times}
 pub use Rattle.histories.specs.declared.front.Event.{Event}
 pub use Rattle.histories.specs.declared.front.Event.TheVariants.{Begin, Crash, End}
 pub use Rattle.histories.specs.declared.front.Advance.{Advance}

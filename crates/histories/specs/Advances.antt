@@ -1,12 +1,13 @@
 -- What events do to a front, where it begins anew, and what a search finds.
 use Rattle.std.specs.Prelude.{◌≡◌, ℕ, ◌<◌, ◌⊎◌, ◌↔◌, AllPairs, List, [], ◌∷◌, ◌++◌, length, Bool, true, false, Option, Some, None}
+use Rattle.std.specs.List.{Contains}
 use Rattle.histories.specs.declared.front.Event.{Event}
 use Rattle.histories.specs.declared.front.Event.TheVariants.{Begin, End, Crash}
 use Rattle.histories.specs.declared.front.Advance.{Advance}
 use Rattle.histories.specs.declared.front.Advance.TheVariants as advance
 use Rattle.histories.specs.declared.front.Config.{Config}
 use Rattle.histories.specs.declared.front.Front.{Front}
-use Rattle.histories.specs.Histories.{IsOpen, begins, HasEnded, IsExplained}
+use Rattle.histories.specs.Histories.{IsOpen, begins, HasEnded, IsExplained, IsLedTo}
 use Rattle.histories.specs.Frontier.{HasManyOpen, HasManyOrders, IsFrontOf, IsSame, IsSound}
 use Rattle.histories.specs.Gathering.{Finishes, IsClosed}
 
@@ -87,16 +88,22 @@ IsMadeAlone Step machine old call new false = IsSameFront old new
 abbrev pub IsQuiet : List Event → Type 0
 IsQuiet events = (call : ℕ) → 0 < begins call events → HasEnded events call
 
--- Where no call is open, a new front begins with the states that the calls have left, and what
--- comes next is judged from these alone: an order explains the whole history exactly where one
--- explains the rest from one of these states. Else a call is open, and the front stays.
+-- The history is cut after these events: no call is open, and the states are those that orders lead
+-- to. What comes next is judged from these alone: an order explains all exactly where one explains
+-- what comes next from one of these states.
+pub record IsCut {S : Type 0} (Step : S → ℕ → S → Type 0) (olds : List S) (past : List Event)
+    (states : List S) : Type 0 where
+  pub quiet : IsQuiet past
+  pub led : (state : S) → Contains states state ↔ IsLedTo Step past olds state
+  pub same : (rest : List Event) → IsSound rest → IsSound (past ++ rest)
+      → IsExplained Step (past ++ rest) olds ↔ IsExplained Step rest states
+
+-- Where no call is open, the history is cut, and a new front begins with the states that are left.
+-- Else a call is open, and the front stays.
 abbrev pub BeginsAnew : {S : Type 0} → (S → ℕ → S → Type 0) → Front S → Front S → Bool → Type 0
 BeginsAnew {S} Step old new true =
     (events : List Event) (olds : List S) → IsSound events → IsFrontOf Step old events olds
-    → IsQuiet events
-    × ((states : List S) × IsFrontOf Step new [] states
-    × ((rest : List Event) → IsSound rest → IsSound (events ++ rest)
-    → IsExplained Step (events ++ rest) olds ↔ IsExplained Step rest states))
+    → (states : List S) × IsCut Step olds events states × IsFrontOf Step new [] states
 BeginsAnew {S} Step old new false =
     (new ≡ old)
     × ((events : List Event) (olds : List S) → IsFrontOf Step old events olds

@@ -87,6 +87,10 @@ abbrev pub Leaves : List (Option ℕ) → List ℕ → ℕ → Type 0
 Leaves slots order waiting =
     (slot call : ℕ) → HasSlot slots slot call → times call order + bit_at waiting slot ≡ 1
 
+-- each slot of the set is that of a call
+abbrev pub HaveCalls : List (Option ℕ) → ℕ → Type 0
+HaveCalls slots set = (slot : ℕ) → bit_at set slot ≡ 1 → (call : ℕ) × HasSlot slots slot call
+
 -- the order that ends at each link, after those that are known: each has the calls of the order
 -- before it, and then its own
 unfoldable pub orders : List (List ℕ) → List Link → List (List ℕ)
@@ -122,7 +126,7 @@ abbrev pub order_of : {S : Type 0} → List Link → Config S → List ℕ
 order_of links config = order_at links (path_of config)
 
 -- the calls that were made, in their order, explain the history from one of the old states, and the
--- others wait
+-- other calls that are open wait, and nothing else
 pub record IsFollowed {S : Type 0} (Step : S → ℕ → S → Type 0) (links : List Link)
     (slots : List (Option ℕ)) (events : List Event) (olds : List S) (config : Config S) : Type 0
   where
@@ -130,6 +134,7 @@ pub record IsFollowed {S : Type 0} (Step : S → ℕ → S → Type 0) (links : 
     pub from : Contains olds old
     pub explains : Explains Step events old (order_of links config) config.state
     pub leaves : Leaves slots (order_of links config) config.waiting
+    pub only : HaveCalls slots config.waiting
     pub within : config.base ≤ length links
 
 -- each configuration is that of an order that explains the history

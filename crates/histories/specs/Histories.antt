@@ -83,6 +83,11 @@ IsExplained {S} Step events olds =
     (old : S) × (order : List ℕ) × (new : S) × Contains olds old
     × Explains Step events old order new
 
+-- an order that explains the history leads from one of the old states to this one
+abbrev pub IsLedTo : {S : Type 0} → (S → ℕ → S → Type 0) → List Event → List S → S → Type 0
+IsLedTo {S} Step events olds new =
+    (old : S) × (order : List ℕ) × Contains olds old × Explains Step events old order new
+
 -- the event may come next: calls are numbered by their begins, and one that is open ends
 abbrev pub MayFollow : List Event → Event → Type 0
 MayFollow events (Begin call) = call ≡ begun events

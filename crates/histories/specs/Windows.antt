@@ -6,7 +6,7 @@ use Rattle.histories.specs.declared.front.Event.{Event}
 use Rattle.histories.specs.declared.front.Event.TheVariants.{End, Begin, Crash}
 use Rattle.histories.specs.declared.front.Config.{Config}
 use Rattle.histories.specs.declared.front.Front.{Front}
-use Rattle.histories.specs.Advances.{BeginsAnew, IsQuiet, EndsOpen, IsMadeAlone, IsSameFront}
+use Rattle.histories.specs.Advances.{BeginsAnew, IsCut, IsQuiet, EndsOpen, IsMadeAlone, IsSameFront}
 use Rattle.histories.specs.Histories.{Explains, IsExplained, IsHistory, StandsAt, begins, begun, IsOpen}
 use Rattle.histories.specs.Frontier.{HasManyOpen, HasManyOrders, IsFrontOf, IsSound, order_of, IsIdle}
 use Rattle.histories.specs.declared.window.Cut.{Cut}
@@ -16,15 +16,6 @@ use Rattle.histories.specs.declared.window.Window.{Window}
 use Rattle.histories.specs.declared.window.Cut.TheVariants as cut
 use Rattle.histories.specs.declared.window.Stop.TheVariants as stop
 use Rattle.histories.specs.declared.window.Verdict.TheVariants as verdict
-
--- The events are cut here: no call is open after the first ones, and an order explains all,
--- whatever comes behind them, exactly where one explains what comes behind from one of these
--- states.
-pub record IsCut {S : Type 0} (Step : S → ℕ → S → Type 0) (olds : List S) (past : List Event)
-    (states : List S) : Type 0 where
-  pub quiet : IsQuiet past
-  pub same : (rest : List Event) → IsSound rest → IsSound (past ++ rest)
-      → IsExplained Step (past ++ rest) olds ↔ IsExplained Step rest states
 
 -- The window that the events end in: its configurations are those of the orders that explain what
 -- comes in it, from the states that were left where it begins. There is one at least.

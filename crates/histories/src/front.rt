@@ -38,7 +38,7 @@ pub struct Link {
 pub struct Config<S> {
     /// The state that its calls have left.
     pub state: S,
-    /// The slots of the open calls that wait to be made: the bit of each is set.
+    /// The slots of the open calls that wait to be made: the bit of each is set, and no other.
     pub waiting: u64,
     /// How many links there are up to that of its last call there, or 0 where none is there.
     pub base: usize,

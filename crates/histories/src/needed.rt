@@ -1,8 +1,9 @@
 //! The calls that a refused event needs.
 ghost use Rattle.std.specs.Prelude.{◌≡◌, ◌<◌, ◌++◌, IfOk, IfSome, IsTrue, OnOk, length};
+ghost use Rattle.histories.specs.Advances.{IsCut};
 ghost use Rattle.histories.specs.Frontier.{IsIdle};
 ghost use Rattle.histories.specs.Histories.{IsExplained, IsHistory};
-ghost use Rattle.histories.specs.Windows.{AreIdle, AreNeeded, HasCut, IsCut, IsRest, IsWellFormed, call_of, events_of, is_kept, states_of};
+ghost use Rattle.histories.specs.Windows.{AreIdle, AreNeeded, HasCut, IsRest, IsWellFormed, call_of, events_of, is_kept, states_of};
 
 use super::follow::follow;
 use super::front::{Advance, Config, Event};

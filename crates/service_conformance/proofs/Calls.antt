@@ -321,6 +321,7 @@ replies_by_words call s p is rest all = record {
   itself = λ r e.
       let can = all.itself r e in
       (quiet can.0, (can.0, can.1, can.2, refl));
+  rising = all.rising;
 }
 
 pub replies_found : (call : Call) (s : Service) (found : Result PossibleReplies AllocError)

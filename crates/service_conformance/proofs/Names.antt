@@ -74,7 +74,7 @@ pub use Rattle.service_conformance.specs.Seen.{EndsWord, IsToLine, changes_nothi
 pub use Rattle.service_conformance.specs.ServiceFields.{service_of}
 pub use Rattle.service_conformance.specs.Sides.{part_at, ports_at, with_ports_at}
 pub use Rattle.service_conformance.specs.WatchedFields.{watched_of}
-pub use Rattle.service_conformance.specs.Words.{AllowsWords, ArePossibleWords, IsNextHandle, IsNextIn, ReadsReply, ReadsReplyHandle, handle_words}
+pub use Rattle.service_conformance.specs.Words.{AllowsWords, ArePossibleWords, AreSlotsRising, IsNextHandle, IsNextIn, ReadsReply, ReadsReplyHandle, handle_words}
 pub use Rattle.service_conformance.specs.declared.conformance.line_reply.LineReply.{LineReply}
 pub use Rattle.service_conformance.specs.declared.conformance.mover.Change.{Change}
 pub use Rattle.service_conformance.specs.declared.conformance.possible.NextHandle.{NextHandle}

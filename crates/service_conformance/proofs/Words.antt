@@ -1,5 +1,5 @@
 -- What words tell.
-use Rattle.service_conformance.proofs.Names.{All-map, List, None, Option, Some, [], ap, append-nil, append_assoc, append_cancel_left, arith, codes, decimal, decimal_injective, map, refl, subst, sym, ℕ, ◌++◌, ◌+◌, ◌<◌, ◌^◌, ◌∙◌, ◌∷◌, ◌≡◌, ◌≢◌, get_or-map, length-map, false, inl, inr, ◌⊎◌, AllowsWords, ArePossible, ArePossibleWords, Bytes, EndsNumber, Entry, Handle, IsNextHandle, IsNextIn, IsSameReply, MayGive, MayGiveIn, NextHandle, Part, RegistryState, Reply, Service, Spelling, ReadsReplyHandle, after, handle_words, line_end, number_one, sequence, text_of, handle_in, is_removal, All, CanServe, LineReply, PortDetails, PossibleReplies, flat_map, id_word, port_word, reply_in}
+use Rattle.service_conformance.proofs.Names.{All-map, List, None, Option, Some, [], ap, append-nil, append_assoc, append_cancel_left, arith, codes, decimal, decimal_injective, map, refl, subst, sym, ℕ, ◌++◌, ◌+◌, ◌<◌, ◌^◌, ◌∙◌, ◌∷◌, ◌≡◌, ◌≢◌, get_or-map, length-map, false, inl, inr, ◌⊎◌, AllPairs, AllowsWords, ArePossible, ArePossibleWords, AreSlotsRising, IsRegistry, IsService, length, Bytes, EndsNumber, Entry, Handle, IsNextHandle, IsNextIn, IsSameReply, MayGive, MayGiveIn, NextHandle, Part, RegistryState, Reply, Service, Spelling, ReadsReplyHandle, after, handle_words, line_end, number_one, sequence, text_of, handle_in, is_removal, All, CanServe, LineReply, PortDetails, PossibleReplies, flat_map, id_word, port_word, reply_in}
 use Rattle.service_descriptions.specs.declared.replay.machine.reply.Reply.TheVariants as reply
 use Rattle.service_descriptions.proofs.Lines.{any_fits, any_number}
 use Rattle.service_conformance.specs.declared.conformance.possible.Part.TheVariants as part
@@ -103,6 +103,25 @@ from_map : {X Y : Type 0} (P : X → Type 0) (f : Y → X) (ys : List Y) → All
 from_map P f ys a = λ k d h.
     subst P (get_or-map f ys k d (f d) h) (a k (f d) (rw (length-map ys f) h))
 
+-- the slots of entries rise
+slots_rise : {T : Type 0} (es : List (Entry T)) → AllPairs (λ a b. a.slot < b.slot) es
+    → AllPairs (λ a b. a < b) (map (λ (e : Entry T). e.slot) es)
+slots_rise [] rise i j d less within = absurd (omega (arith, within))
+slots_rise {T} (x ∷ es) rise i j d less within =
+    let slot : Entry T → ℕ = λ e. e.slot in
+    let all : List (Entry T) = x ∷ es in
+    let there : j < length all = omega (arith, within, length-map all slot) in
+    rw (get_or-map slot all i x d (omega (arith, less, there)), get_or-map slot all j x d there)
+    (rise i j x less there)
+
+are_rising : {T : Type 0} (r : RegistryState T) (next : NextHandle) → IsRegistry r
+    → IsNextHandle r next → AreSlotsRising (replies.Handle next)
+are_rising {T} r next k is =
+    rw (is.taken, is.capacity) (
+      slots_rise r.entries k.slots_rise,
+      All-map (λ t. t < r.capacity) (λ (e : Entry T). e.slot) r.entries k.slots_below,
+    )
+
 module _ {T : Type 0} (r : RegistryState T) (next : NextHandle) (is : IsNextHandle r next)
     (words : List ℕ) where
   next_may : AllowsWords (replies.Handle next) words
@@ -154,16 +173,17 @@ module _ (s : Service) (Step : Reply → Service → Type 0) where
           λ a. same_text r a.0 (all.only a.0 a.2.0 a.2.1 a.2.2) ∙ a.1,
         );
         itself = λ q e. subst (CanServe Step) (ap (reply_alone r) e) can;
+        rising = tt;
       }
 
   module _ (part : Part) (next : NextHandle)
       (all : ArePossible s Step (possible.Given part)) where
     -- where the handles that may be given are those of a registry
-    by_registry : {T : Type 0} (r : RegistryState T) → IsNextHandle r next
+    by_registry : {T : Type 0} (r : RegistryState T) → IsRegistry r → IsNextHandle r next
         → ((h : Handle) → MayGive r h → MayGiveIn s part h)
         → ((h : Handle) → MayGiveIn s part h → MayGive r h)
         → ArePossibleWords Step (replies.Handle next)
-    by_registry r is here there = record {
+    by_registry r k is here there = record {
       by_words = λ words. (
         λ a.
             let h = next_may r next is words a in
@@ -173,16 +193,20 @@ module _ (s : Service) (Step : Reply → Service → Type 0) where
             may_next r next is words h.0 (there h.0 h.2) (ap text_of (sym h.1) ∙ a.1),
       );
       itself = λ one e. absurd (cc);
+      rising = are_rising r next k is;
     }
 
-  pub given_words : (part : Part) (next : NextHandle) → ArePossible s Step (possible.Given part)
-      → IsNextIn s part next → ArePossibleWords Step (replies.Handle next)
-  given_words part.Nodes next all is =
-      by_registry part.Nodes next all s.nodes.registry is (λ h m. m) (λ h m. m)
-  given_words part.First next all is =
-      by_registry part.First next all s.ports.first.registry is (λ h m. m) (λ h m. m)
-  given_words part.Second next all is =
-      by_registry part.Second next all s.ports.second.registry is (λ h m. m) (λ h m. m)
+  pub given_words : (part : Part) (next : NextHandle) → IsService s
+      → ArePossible s Step (possible.Given part) → IsNextIn s part next
+      → ArePossibleWords Step (replies.Handle next)
+  given_words part.Nodes next k all is =
+      by_registry part.Nodes next all s.nodes.registry k.nodes_are is (λ h m. m) (λ h m. m)
+  given_words part.First next k all is =
+      by_registry part.First next all s.ports.first.registry k.ports_are.first.is_registry
+      is (λ h m. m) (λ h m. m)
+  given_words part.Second next k all is =
+      by_registry part.Second next all s.ports.second.registry k.ports_are.second.is_registry
+      is (λ h m. m) (λ h m. m)
 
 -- what no handle has, given or not
 pub neither : (Has : Option Handle → Type 0) → ¬ (Has None) → ((h : Handle) → ¬ (Has (Some h)))

@@ -12,7 +12,7 @@ use Rattle.service_conformance.specs.declared.conformance.possible.PossibleRepli
 use Rattle.service_conformance.specs.declared.conformance.possible.PossibleReplies.TheVariants as replies
 use Rattle.service_conformance.specs.Possible.{MayGiveIn}
 use Rattle.service_conformance.specs.Quiet.{quiet}
-use Rattle.service_conformance.specs.Words.{AllowsWords}
+use Rattle.service_conformance.specs.Words.{AllowsWords, AreSlotsRising}
 use Rattle.service_conformance.specs.declared.conformance.seen_call.SeenCall.TheInside.{Inside}
 use Rattle.service_conformance.specs.declared.conformance.request.Request.{Request}
 use Rattle.service_conformance.specs.declared.conformance.request.Request.TheVariants as request
@@ -137,6 +137,7 @@ pub record AreRepliesOf (s : Service) (call : Call) (p : PossibleReplies) : Type
   pub by_words : (words : List ℕ)
       → AllowsWords p words ↔ ((new : Service) × CallStep (answered call words) s new)
   pub itself : (r : Reply) → p ≡ replies.One r → (new : Service) × LeadsOn call s r new
+  pub rising : AreSlotsRising p
 
 -- the call that the fields tell
 abbrev pub seen_as : Inside → Call

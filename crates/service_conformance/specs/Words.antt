@@ -1,5 +1,5 @@
 -- What the words of a reply tell.
-use Rattle.std.specs.Prelude.{◌++◌, ◌<◌, ◌↔◌, ◌≡◌, ◌≢◌, All, List, None, Option, Some, codes, map, ℕ}
+use Rattle.std.specs.Prelude.{◌++◌, ◌<◌, ◌↔◌, ◌≡◌, ◌≢◌, All, AllPairs, List, None, Option, Some, codes, map, ℕ}
 use Rattle.service_conformance.specs.Prelude.{Entry, Handle, IsSameReply, RegistryState, Reply, Service, decimal, text_of}
 use Rattle.service_descriptions.specs.declared.replay.machine.reply.Reply.TheVariants as reply
 use Rattle.service_conformance.specs.declared.conformance.possible.NextHandle.{NextHandle}
@@ -49,9 +49,16 @@ AllowsWords (replies.Handle next) words =
     × (handle_words slot next.ticket ≡ words)
 AllowsWords (replies.List lists) words = ⊥
 
+-- the slots that are not free rise, and each is one of the registry
+abbrev pub AreSlotsRising : PossibleReplies → Type 0
+AreSlotsRising (replies.Handle next) =
+    AllPairs (λ a b. a < b) next.taken.items × All (λ t. t < next.capacity) next.taken.items
+AreSlotsRising _ = Unit {0}
+
 -- These are the replies, by their words, with which the steps lead to a service. Where it is one
 -- alone, it is that reply itself: two of other commands may have the same words.
 pub record ArePossibleWords (Step : Reply → Service → Type 0) (p : PossibleReplies) : Type 0 where
   pub by_words : (words : List ℕ)
       → AllowsWords p words ↔ ((r : Reply) × (text_of r ≡ words) × CanServe Step r)
   pub itself : (r : Reply) → p ≡ replies.One r → CanServe Step r
+  pub rising : AreSlotsRising p

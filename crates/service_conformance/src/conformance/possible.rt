@@ -56,7 +56,7 @@ pub struct NextHandle {
     pub ticket: u64,
     /// How many slots there are. They are numbered from 0.
     pub capacity: usize,
-    /// The slots that are not free, rising.
+    /// The slots that are not free, rising, each below the capacity.
     pub taken: Vec<usize>,
 }
 

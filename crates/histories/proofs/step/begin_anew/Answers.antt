@@ -1,8 +1,9 @@
 use Rattle.histories.proofs.Words.{rules, ◌≡◌, length, map, refl, AreEach, IsUnlinked}
 use Rattle.histories.proofs.Lists.{put_back}
 use Rattle.histories.proofs.step.begin_anew.Goals as goal
-use Rattle.histories.proofs.Alone.{fresh_anew, split_anew}
+use Rattle.histories.proofs.Alone.{fresh_anew, led_anew}
 use Rattle.histories.proofs.Events.{quiet_empty}
+use Rattle.histories.proofs.Explaining.{cut_of}
 
 pub returns : goal.returns
 returns g c whole events olds sound f =
@@ -16,12 +17,10 @@ returns g c whole events olds sound f =
     let is : AreEach IsUnlinked configs unlinked =
     rw c.deref_mut.ensures.value at c.unlink.ensures in
     let long : front.configs.len ≡ length configs = search rules in (
-      quiet,
-      (
-        map (λ k. k.state) configs,
-        rw (put_back _ _ _ is.0 long) (fresh_anew Step _ _ _ _ f.table.few empty f.once is),
-        λ rest after all. split_anew _ _ _ _ _ _ sound quiet empty f _ after all,
-      ),
+      map (λ k. k.state) configs,
+      cut_of Step _ _ _ sound quiet (led_anew Step _ _ _ _ _ empty f),
+      rw (put_back _ _ _ is.0 long) (fresh_anew Step _ _ _ _ f.table.few empty
+          (λ k has. (f.sound k has).only) f.once is),
     )
 
 pub returns-then-not-are_free : goal.returns-then-not-are_free

@@ -6,7 +6,8 @@ pub returns-in_ok-next_in-in-Given-clause-replies
     : goal.returns-in_ok-next_in-in-Given-clause-replies
 returns-in_ok-next_in-in-Given-clause-replies c =
     given_words c.args.self.now (ServesRequest c.args.request.now c.args.self.now) c.in-Given.part
-    c.in_ok-next_in-in-Given.field-0 (rw c.in-Given.is at c.in_ok-one.ensures.possible)
+    c.in_ok-next_in-in-Given.field-0 c.in_ok-one.ensures.kept
+    (rw c.in-Given.is at c.in_ok-one.ensures.possible)
     c.in_ok-next_in-in-Given.ensures
 
 pub returns-in-One-clause-replies : goal.returns-in-One-clause-replies
