@@ -13,8 +13,8 @@ returns-clause-ends g c =
     (elim c.match-branch-2.branch [
       | in-Ok w ↦
           let all = rw w.in-Ok.is at c.in_ok-log.ensures.bytes in
-          rw w.end-is (IfOk-weaker _ _ (Drew given) (λ d is. (_, all, rw w.deref.ensures.value at is))
-          w.draw_log-end.ensures)
+          rw w.end-is (IfOk-weaker _ _ (Drew given)
+          (λ d is. (_, all, rw w.deref.ensures.value at is)) w.draw_log-end.ensures)
       | in-Err w ↦ rw w.end-is tt
     ])
     c.write_outcome.ensures.status c.write_outcome.ensures.output c.write_outcome.ensures.errors
