@@ -1,5 +1,5 @@
 -- Bars in rising order, and the points of orders.
-use Rattle.std.proofs.Common.{◌≡◌, ◌⊎◌, Option, Some, None, ℕ, ◌+◌, ◌<◌, ◌≤◌, max, cond, List, [], ◌∷◌, ◌++◌, All, AllPairs, Contains, get_or, length, take, flat_map, inl, inr, ap, refl, subst, sym, ◌∙◌, arith}
+use Rattle.std.proofs.Common.{◌≡◌, ◌⊎◌, ℕ, ◌+◌, ◌<◌, ◌≤◌, max, cond, List, [], ◌∷◌, ◌++◌, All, AllPairs, Contains, get_or, length, take, flat_map, inl, inr, ap, refl, subst, sym, ◌∙◌, arith}
 use Rattle.std.specs.List.{AllZip}
 use Rattle.std.specs.Prelude.{◌==◌}
 use Rattle.std.proofs.lemmas.Bool.{cases_lt, cond-false, cond-true, eq-eqb, ne_eqb}
@@ -12,7 +12,6 @@ use Rattle.std.proofs.lemmas.List.Quantifiers.{all_pairs_push}
 use Rattle.std.proofs.lemmas.Slice.Zip.{all_zipped_more}
 use Rattle.history_logs.specs.declared.logs.verdict.Order.{Order}
 use Rattle.history_drawing.specs.Timelines.{ArePoints, ArePointsOf, Follows, IsLeft, IsPointOf, IsWithin, Reaches, last_of, points_at}
-use Rattle.history_drawing.specs.Drawings.{HavePoints}
 use Rattle.history_drawing.specs.declared.timeline.Bar.{Bar}
 use Rattle.history_drawing.specs.declared.timeline.BarEnd.{BarEnd}
 use Rattle.history_drawing.specs.declared.timeline.Point.{Point}
@@ -191,13 +190,10 @@ abbrev pub IsPoint : List Bar → Point → Type 0
 IsPoint bars p = (b : Bar) × Contains bars b × IsWithin b p
 
 -- each point of a picture lies in a bar
-pub in_bars : (log : List ℕ) (marked : Option ℕ) (bars : List Bar) (points : List Point)
-    → HavePoints log marked bars points → All (IsPoint bars) points
-in_bars log (Some line) bars points none =
-    subst (λ (l : List Point). All (IsPoint bars) l) (sym none) (All-nil (IsPoint bars))
-in_bars log None bars points h =
-    let (each, is, zip) = h.are in
-    subst (λ (l : List Point). All (IsPoint bars) l) (sym is) (all_in h.orders each zip)
+pub in_bars : (bars : List Bar) (orders : List Order) (points : List Point)
+    → ArePoints bars orders points → All (IsPoint bars) points
+in_bars bars orders points (each, is, zip) =
+    subst (λ (l : List Point). All (IsPoint bars) l) (sym is) (all_in orders each zip)
   where
     one_in : (lines : List ℕ) (ps : List Point) → AllZip (IsPointOf bars) lines ps
         → All (IsPoint bars) ps

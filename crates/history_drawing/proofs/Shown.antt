@@ -1,28 +1,22 @@
 -- What a time line shows, and what is drawn of a log.
-use Rattle.std.proofs.Common.{◌≡◌, ℕ, zero, suc, ◌+◌, ◌<◌, ◌≤◌, List, [], ◌∷◌, ◌++◌, All, Contains, get_or, length, inl, inr, ap, refl, subst, sym, ◌∙◌, arith, Option, Some, None, Result, Ok, Err, IfOk, IfSome, OnErr, codes, string_bytes}
+use Rattle.std.proofs.Common.{◌≡◌, ℕ, zero, suc, ◌+◌, ◌<◌, ◌≤◌, List, [], ◌∷◌, ◌++◌, All, Contains, get_or, length, inl, inr, ap, refl, subst, sym, ◌∙◌, arith, Option, Some, None, IfSome, string_bytes}
 use Rattle.std.specs.Borrow.{Bor}
+use Rattle.std.specs.Io.KnownBytes.{Appends}
 use Rattle.std.proofs.lemmas.Bool.{cases_lt}
 use Rattle.std.proofs.lemmas.List.{length-append}
 use Rattle.std.proofs.lemmas.List.Elements.{All-contains, All-push, Contains-append_left, Contains-push}
 use Rattle.std.proofs.lemmas.List.Quantifiers.{all_pairs_push}
+use Rattle.line_streams.specs.Filters.{status_number}
 use Rattle.history_drawing.specs.Calls.{text_at}
 use Rattle.history_drawing.specs.Coordinates.{IsDrawable}
+use Rattle.history_drawing.specs.Drawings.{DrawnWith, IsDrawingOf}
 use Rattle.history_drawing.specs.Timelines.{AreApart, AreBars, Extends, HasBar, HasEarlier, IsBar, IsBarOf, IsRow, IsWanted}
 use Rattle.history_drawing.specs.declared.calls.LogCall.{LogCall}
+use Rattle.history_drawing.specs.declared.drawing.Drawing.{Drawing}
 use Rattle.history_drawing.specs.declared.timeline.Bar.{Bar}
 use Rattle.history_drawing.specs.declared.timeline.Timeline.{Timeline}
 use Rattle.history_drawing.specs.declared.timeline.Window.{Window}
-use Rattle.std.specs.declared.alloc.AllocError.{AllocError}
-use Rattle.std.specs.Io.KnownBytes.{Appends}
-use Rattle.line_streams.proofs.Written.{status_small}
-use Rattle.line_streams.specs.Filters.{Ends, Ran, either, status_number}
-use Rattle.std.specs.Result.{IsOkAnd}
-use Rattle.std.specs.declared.alloc.Global.{Global}
-use Rattle.std.specs.declared.io.Error.{Error}
-use Rattle.std.specs.declared.vec.Vec.{Vec}
 use Rattle.history_drawing.proofs.Rising.{IsPoint}
-use Rattle.history_drawing.specs.Drawings.{DrawnWith, IsDrawingOf}
-use Rattle.history_drawing.specs.declared.drawing.Drawing.{Drawing}
 
 -- the text of a row that stays
 pub row_text : (rows more : List (Bor (List ℕ))) (k : ℕ) → k < length rows
@@ -167,51 +161,19 @@ drawable lines w limit t h points =
       point_parts = λ k d fits. let (b, there, within) = points k d fits in within.few;
     }
 
--- the status, and what the output and the errors get
-abbrev status_of : Result Drawing AllocError → ℕ
-status_of = either (λ d. status_number d.status) (λ why. 3)
-
-abbrev output_of : Result Drawing AllocError → List ℕ
-output_of = either (λ d. string_bytes d.picture) (λ why. [])
-
-abbrev errors_of : Result Drawing AllocError → List ℕ
-errors_of = either (λ d. d.message.items) (λ why. codes "no memory\n")
-
--- what is drawn is drawn of what was read
-abbrev DrawsRead : Result (Vec ℕ Global) AllocError → Result Drawing AllocError → Type 0
-DrawsRead read end = IfOk end (λ d. IsOkAnd read (λ log. IsDrawingOf log.items d))
+-- this was drawn of what was read
+abbrev pub Drew : Option (List ℕ) → Drawing → Type 0
+Drew given d = (bytes : List ℕ) × IfSome given (λ log. bytes ≡ log) × IsDrawingOf bytes d
 
 -- what the writers get of it
-pub drawn_where_ran : (Works : Result (Vec ℕ Global) AllocError → Result Drawing AllocError
-    → Type 0) (wrote : Result ℕ Error) (given left a b e f : Option (List ℕ))
-    → ((read : Result (Vec ℕ Global) AllocError) (end : Result Drawing AllocError)
-    → Works read end → DrawsRead read end)
-    → IfOk wrote (λ n. Ran Works status_of output_of errors_of n given left a b e f)
-    → IfOk wrote (λ n. Ends (λ n. IfSome given (λ log. DrawnWith log n a b e f)) n a b e f)
-drawn_where_ran Works (Err x) given left a b e f draws ran = tt
-drawn_where_ran Works (Ok n) given left a b e f draws ran =
-    go given ran.read ran.outcome (draws ran.read ran.outcome ran.worked) ran.all ran.is_status
-    ran.output ran.errors
-  where
-    drawn : (given : Option (List ℕ)) (read : Result (Vec ℕ Global) AllocError) (d : Drawing)
-        → DrawsRead read (Ok d) → IfOk read (λ bytes. IfSome given (λ log. bytes.items ≡ log))
-        → n ≡ status_number d.status → Appends a b (string_bytes d.picture)
-        → Appends e f d.message.items → IfSome given (λ log. DrawnWith log n a b e f)
-    drawn None read d draws all is out err = tt
-    drawn (Some log) (Err why) d draws all is out err = absurd draws
-    drawn (Some log) (Ok bytes) d draws all is out err = record {
-      d = d;
-      is = subst (λ (l : List ℕ). IsDrawingOf l d) all draws;
-      reported = is;
-      output = out;
-      errors = err;
-    }
-
-    go : (given : Option (List ℕ)) (read : Result (Vec ℕ Global) AllocError)
-        (end : Result Drawing AllocError) → DrawsRead read end
-        → IfOk read (λ bytes. IfSome given (λ log. bytes.items ≡ log)) → n ≡ status_of end
-        → Appends a b (output_of end) → Appends e f (errors_of end)
-        → Ends (λ n. IfSome given (λ log. DrawnWith log n a b e f)) n a b e f
-    go given read (Err why) draws all is out err = inr (is, (out, err))
-    go given read (Ok d) draws all is out err =
-        inl (rw is (status_small d.status), drawn given read d draws all is out err)
+pub drawn_with : (given a b e f : Option (List ℕ)) (d : Drawing) → Drew given d
+    → Appends a b (string_bytes d.picture) → Appends e f d.message.items
+    → IfSome given (λ log. DrawnWith log (status_number d.status) a b e f)
+drawn_with None a b e f d drew out err = tt
+drawn_with (Some log) a b e f d (bytes, all, is) out err = record {
+  d = d;
+  is = subst (λ (l : List ℕ). IsDrawingOf l d) all is;
+  reported = refl;
+  output = out;
+  errors = err;
+}

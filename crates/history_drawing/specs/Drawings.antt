@@ -19,8 +19,6 @@ use Rattle.history_drawing.specs.Timelines.{ArePoints, AreBars, HasMany}
 use Rattle.history_drawing.specs.Svg.{svg_text}
 use Rattle.history_drawing.specs.declared.drawing.Drawing.{Drawing}
 use Rattle.history_drawing.specs.declared.drawing.TheConstants.{MANY_CALLS}
-use Rattle.history_drawing.specs.declared.timeline.Bar.{Bar}
-use Rattle.history_drawing.specs.declared.timeline.Point.{Point}
 use Rattle.history_drawing.specs.declared.timeline.Timeline.{Timeline}
 use Rattle.history_drawing.specs.declared.timeline.Window.{Window}
 
@@ -57,26 +55,13 @@ pub record IsWhole (log : List ℕ) (lines : List (Bor (List ℕ))) (w : Window)
   pub last : w.last ≡ length lines - 1
   pub wanted : w.wanted ≡ None
 
--- the points are those of orders that explain the log
-pub record AreExplained (log : List ℕ) (bars : List Bar) (points : List Point) : Type 0 where
-  pub verdict : Verdict
-  pub judged : Judged log verdict
-  pub orders : List Order
-  pub explain : HasOrders log verdict orders
-  pub are : ArePoints bars orders points
-
--- the points of a picture: where no reply is marked those of orders that explain the log, else none
-abbrev pub HavePoints : List ℕ → Option ℕ → List Bar → List Point → Type 0
-HavePoints log None bars points = AreExplained log bars points
-HavePoints log (Some marked) bars points = points ≡ []
-
--- The picture of a window of the lines of the log: the wanted calls that begin in it, and these
--- points. The reply in this line is marked.
-pub record Shows (log : List ℕ) (lines : List (Bor (List ℕ))) (w : Window) (marked : Option ℕ)
-    (report picture : List ℕ) : Type 0 where
+-- The picture of a window of these lines: the wanted calls that begin in it, and the points of
+-- these orders. The reply in this line is marked.
+pub record Shows (lines : List (Bor (List ℕ))) (w : Window) (marked : Option ℕ)
+    (orders : List Order) (report picture : List ℕ) : Type 0 where
   pub t : Timeline
   pub bars : AreBars lines w (w.last + 1) t.rows.items t.bars.items
-  pub points : HavePoints log marked t.bars.items t.points.items
+  pub points : ArePoints t.bars.items orders t.points.items
   pub refused : t.refused ≡ marked
   pub is : IsPicture report t picture
 
@@ -97,34 +82,38 @@ status_for None = Good
 status_for (Some marked) = Faulty
 
 -- the picture of a window is drawn with this report, or more than 200 calls belong in it
-abbrev pub DrawsLines : List ℕ → List (Bor (List ℕ)) → Window → Option ℕ → List ℕ → Drawing → Type 0
-DrawsLines log lines w marked report d =
+abbrev pub DrawsLines : List (Bor (List ℕ)) → Window → Option ℕ → List Order → List ℕ → Drawing
+    → Type 0
+DrawsLines lines w marked orders report d =
     (IsUndrawn MANY_CALLS.now d × HasMany lines w)
-    ⊎ (IsDrawn (status_for marked) d × Shows log lines w marked report (string_bytes d.picture))
+    ⊎ (IsDrawn (status_for marked) d × Shows lines w marked orders report (string_bytes d.picture))
 
--- the picture of all lines of a log that conforms, with points
-abbrev pub DrawsAll : List ℕ → List ℕ → Drawing → Type 0
-DrawsAll log report d =
+-- the picture of all lines of a log that conforms
+abbrev pub DrawsAll : List ℕ → List Order → List ℕ → Drawing → Type 0
+DrawsAll log orders report d =
     (lines : List (Bor (List ℕ))) × (w : Window) × IsWhole log lines w
-    × DrawsLines log lines w None report d
+    × DrawsLines lines w None orders report d
 
 -- that of the window of a refused reply, which is marked
-abbrev pub DrawsWindow : List ℕ → Refusal → List ℕ → Drawing → Type 0
-DrawsWindow log reported report d =
+abbrev pub DrawsWindow : List ℕ → Refusal → List Order → List ℕ → Drawing → Type 0
+DrawsWindow log reported orders report d =
     (lines : List (Bor (List ℕ))) × (w : Window) × IsWindow log reported lines w
-    × DrawsLines log lines w (Some reported.reply) report d
+    × DrawsLines lines w (Some reported.reply) orders report d
 
--- what is drawn of a log that is judged so, with this report
-abbrev pub Draws : List ℕ → Verdict → List ℕ → Drawing → Type 0
-Draws log (verdict.Conforms n m) report d = DrawsAll log report d
-Draws log (verdict.Refused reported) report d = DrawsWindow log reported report d
-Draws log v report d = IsUndrawn report d
+-- what is drawn of a log that is judged so, with these orders and this report
+abbrev pub Draws : List ℕ → Verdict → List Order → List ℕ → Drawing → Type 0
+Draws log (verdict.Conforms n m) orders report d = DrawsAll log orders report d
+Draws log (verdict.Refused reported) orders report d = DrawsWindow log reported orders report d
+Draws log v orders report d = IsUndrawn report d
 
--- the log is judged in one way, and this is drawn of it, with the report on that
+-- The log is judged in one way, with an order for each service where it conforms, and else none.
+-- This is drawn of it, with the points of these orders and the report on the verdict.
 pub record IsDrawingOf (log : List ℕ) (d : Drawing) : Type 0 where
   pub end : Verdict
   pub judged : Judged log end
-  pub draws : Draws log end (report_text end) d
+  pub orders : List Order
+  pub explain : HasOrders log end orders
+  pub draws : Draws log end orders (report_text end) d
 
 -- the log was drawn: that is the status, and the writers got the picture and what is reported
 pub record DrawnWith (log : List ℕ) (status : ℕ) (out_old out_new err_old err_new : Option (List ℕ))

@@ -1,18 +1,17 @@
 //! Pictures of logs.
-ghost use Rattle.std.specs.Prelude.{◌≡◌, ◌+◌, ◌<◌, ℕ, AllPairs, IfNone, IfOk, IfSome, IsFalse, IsTrue, List};
+ghost use Rattle.std.specs.Prelude.{◌≡◌, ◌+◌, ℕ, IfNone, IfOk, IfSome, IsFalse, IsTrue, List};
 ghost use Rattle.std.specs.Prelude.{string_bytes};
 ghost use Rattle.history_drawing.specs.Calls.{BeginsIn, IsAnsweredIn, IsElsewhere, IsServiceOf};
 ghost use Rattle.history_drawing.specs.Drawings.{AreLines, Draws, DrawsAll, DrawsLines};
-ghost use Rattle.history_drawing.specs.Drawings.{DrawsWindow, HavePoints, IsDrawingOf, IsDrawn};
-ghost use Rattle.history_drawing.specs.Drawings.{IsPicture, IsUndrawn, IsWindow, status_for};
-ghost use Rattle.history_drawing.specs.declared.timeline.Bar.{Bar};
+ghost use Rattle.history_drawing.specs.Drawings.{DrawsWindow, IsDrawingOf, IsDrawn, IsPicture};
+ghost use Rattle.history_drawing.specs.Drawings.{IsUndrawn, IsWindow, status_for};
 ghost use Rattle.history_drawing.specs.Coordinates.{IsDrawable};
 
 use crate::calls::{LogCall, below_first, call_at, first_service, lines_of, text_at};
 use crate::points::points_of;
 use crate::svg::write_svg;
-use crate::timeline::{Bar, BarEnd, Point, Timeline, Window, timeline_of};
-use history_logs::logs::{Refusal, Verdict, order_log, report_log};
+use crate::timeline::{BarEnd, Timeline, Window, timeline_of};
+use history_logs::logs::{Order, Refusal, Verdict, order_log, report_on};
 use line_streams::Status;
 use std::alloc::{AllocError, Global};
 
@@ -138,41 +137,21 @@ fn window_of(alloc: Global, lines: &[&[u8]], reported: &Refusal) -> Result<Windo
     })
 }
 
-/// The points of a picture: none where a reply is refused, and else where calls took effect by
-/// orders that explain the log.
-fn points_in(
-    alloc: Global,
-    log: &[u8],
-    refused: Option<usize>,
-    bars: &[Bar<'_>],
-) -> Result<Vec<Point>, AllocError>
-    requires { AllPairs (λ (one other : Bar). one.begin < other.begin) bars.now }
-    ensures { IfOk result (λ points. HavePoints log.now refused bars.now points.items) }
-{
-    match refused {
-        Some(_) => Ok(Vec::new(alloc)),
-        None => {
-            let (_, orders) = order_log(alloc, log)?;
-            points_of(alloc, bars, &orders)
-        }
-    }
-}
-
 /// The picture of the calls of a window, or that there are too many for one.
 fn draw_lines(
     alloc: Global,
-    log: &[u8],
     lines: &[&[u8]],
     window: &Window,
     refused: Option<usize>,
+    orders: &[Order],
     report: &[u8],
 ) -> Result<Drawing, AllocError>
-    ensures { IfOk result (DrawsLines log.now lines.now window.now refused report.now) }
+    ensures { IfOk result (DrawsLines lines.now window.now refused orders.now report.now) }
 {
     let Some(mut timeline) = timeline_of(alloc, lines, window, refused)? else {
         return undrawn(alloc, MANY_CALLS);
     };
-    timeline.points = points_in(alloc, log, refused, &timeline.bars)?;
+    timeline.points = points_of(alloc, &timeline.bars, orders)?;
     drawn(alloc, &timeline, report)
 }
 
@@ -181,20 +160,26 @@ fn draw_refused(
     alloc: Global,
     log: &[u8],
     reported: &Refusal,
+    orders: &[Order],
     report: &[u8],
 ) -> Result<Drawing, AllocError>
-    ensures { IfOk result (DrawsWindow log.now reported.now report.now) }
+    ensures { IfOk result (DrawsWindow log.now reported.now orders.now report.now) }
 {
     let lines = lines_of(alloc, log)?;
     let lines = lines.as_slice();
     let window = window_of(alloc, lines, reported)?;
-    draw_lines(alloc, log, lines, &window, Some(reported.reply), report)
+    draw_lines(alloc, lines, &window, Some(reported.reply), orders, report)
 }
 
 /// The picture of all calls of a log that conforms, with the points at which they took effect, or
 /// that there are too many for one.
-fn draw_whole(alloc: Global, log: &[u8], report: &[u8]) -> Result<Drawing, AllocError>
-    ensures { IfOk result (DrawsAll log.now report.now) }
+fn draw_whole(
+    alloc: Global,
+    log: &[u8],
+    orders: &[Order],
+    report: &[u8],
+) -> Result<Drawing, AllocError>
+    ensures { IfOk result (DrawsAll log.now orders.now report.now) }
 {
     let lines = lines_of(alloc, log)?;
     let lines = lines.as_slice();
@@ -204,28 +189,35 @@ fn draw_whole(alloc: Global, log: &[u8], report: &[u8]) -> Result<Drawing, Alloc
         wanted: None,
         service: None,
     };
-    draw_lines(alloc, log, lines, &window, None, report)
+    draw_lines(alloc, lines, &window, None, orders, report)
 }
 
-/// What is drawn of a log, by its verdict and the report on it.
-fn draw(alloc: Global, log: &[u8], verdict: &Verdict, report: &[u8]) -> Result<Drawing, AllocError>
-    ensures { IfOk result (Draws log.now verdict.now report.now) }
+/// What is drawn of a log, by its verdict, the orders that come with it, and the report on it.
+fn draw(
+    alloc: Global,
+    log: &[u8],
+    verdict: &Verdict,
+    orders: &[Order],
+    report: &[u8],
+) -> Result<Drawing, AllocError>
+    ensures { IfOk result (Draws log.now verdict.now orders.now report.now) }
 {
     match verdict {
-        Verdict::Refused(reported) => draw_refused(alloc, log, reported, report),
-        Verdict::Conforms(_, _) => draw_whole(alloc, log, report),
+        Verdict::Refused(reported) => draw_refused(alloc, log, reported, orders, report),
+        Verdict::Conforms(_, _) => draw_whole(alloc, log, orders, report),
         Verdict::ManyConfigs(_) => undrawn(alloc, report),
         Verdict::ManyOpen(_) => undrawn(alloc, report),
         Verdict::BadLine(_, _) => undrawn(alloc, report),
     }
 }
 
-/// Judges a log, and draws the window of the first reply that no order explains, or all calls where
-/// it conforms.
+/// Judges a log, as `order_log` does, and draws the window of the first reply that no order
+/// explains, or all calls where it conforms.
 pub fn draw_log(alloc: Global, log: &[u8]) -> Result<Drawing, AllocError>
     ensures { IfOk result (IsDrawingOf log.now) }
 {
-    let (verdict, report) = report_log(alloc, log)?;
-    let drawing = draw(alloc, log, &verdict, &report)?;
+    let (verdict, orders) = order_log(alloc, log)?;
+    let report = report_on(alloc, &verdict)?;
+    let drawing = draw(alloc, log, &verdict, &orders, &report)?;
     Ok(drawing)
 }

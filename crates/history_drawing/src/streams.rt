@@ -1,13 +1,12 @@
 //! Pictures of logs that come from a stream.
 ghost use Rattle.std.specs.Prelude.{◌≡◌, ◌<◌, IfErr, IfOk, IfSome, OnOk, string_bytes};
-ghost use Rattle.std.specs.Result.{IsOkAnd};
 ghost use Rattle.std.specs.Io.KnownBytes.{IsAtEnd};
 ghost use Rattle.line_streams.specs.Filters.{Ends, GivesUp, status_number};
 ghost use Rattle.line_streams.specs.Streams.{IsFlushed, StreamFails};
-ghost use Rattle.history_drawing.specs.Drawings.{DrawnWith, IsDrawingOf};
+ghost use Rattle.history_drawing.specs.Drawings.{DrawnWith};
 
 use crate::drawing::{Drawing, draw_log};
-use line_streams::{Outcome, Sink, Source, report_failure, run_filter, write_whole};
+use line_streams::{Outcome, Sink, Source, read_all, report_failure, write_outcome, write_whole};
 use std::alloc::{AllocError, Global};
 use std::io;
 
@@ -31,16 +30,6 @@ impl Outcome for Drawing {
     }
 }
 
-/// What is drawn of the log that was read.
-fn draw_read(alloc: Global, read: Result<Vec<u8>, AllocError>) -> Result<Drawing, AllocError>
-    ensures { IfOk result (λ d. IsOkAnd read (λ log. IsDrawingOf log.items d)) }
-{
-    match read {
-        Ok(log) => draw_log(alloc, &log),
-        Err(why) => Err(why),
-    }
-}
-
 /// Draws the log that the reader gives, and returns the status unless a stream fails.
 fn run<R: Source, W: Sink, E: Sink>(
     alloc: Global,
@@ -59,7 +48,11 @@ fn run<R: Source, W: Sink, E: Sink>(
     ensures failed { IfErr result (StreamFails R.FailsBy W.Writes W.FailsToFlush E.Writes
         E.FailsToFlush input.new output.old output.new errors.old errors.new) }
 {
-    run_filter(alloc, input, output, errors, |read| draw_read(alloc, read))
+    let end = match read_all(alloc, input)? {
+        Ok(log) => draw_log(alloc, &log),
+        Err(why) => Err(why),
+    };
+    write_outcome(output, errors, &end)
 }
 
 /// Draws the log that the reader gives, and answers the status of the program.

@@ -1,6 +1,6 @@
 -- What is reported of a reply that is refused, and of configurations. A weak listing can always
 -- start, so none is refused.
-use Rattle.history_logs.proofs.Words.{All-push, AllZip, Answers, AreLines, AreLinesTo, AreNeededLines, Begin, Bool, Contains, Contains-append_left, Contains-push, Crash, End, Event, HasEventLines, HasSlot, IsCommandOf, IsExplained, IsLine, IsLineAt, IsOpen, IsOrderly, IsRefusedIn, IsReported, IsSaidIn, IsStop, IsTrue, IsBusyFrom, IsWindowOf, Judged, Line, List, None, Option, Part, Refusal, Service, Some, StandsAt, StepOf, Watched, Window, [], all_pairs_push, ap, arith, begins, begins-append, cases_lt, drop, false, get_or, get_or_from_slice_get, inl, inr, length, length-append, length-take-le, line_text, listed, news, one_more, refl, same_Some, slice_get, slice_get_read, slice_get_within, starts, stops, subst, sym, take, take-append-drop, take_more, times_one, ℕ, ◌++◌, ◌+◌, ◌<◌, ◌∙◌, ◌∷◌, ◌≡◌, ◌≤◌, ◌⊎◌}
+use Rattle.history_logs.proofs.Words.{All-push, AllZip, Answers, AreLines, AreLinesTo, AreNeededLines, Begin, Bool, Contains, Contains-append_left, Contains-push, Crash, End, Event, HasEventLines, HasSlot, IsBusyFrom, IsCommandOf, IsExplained, IsLine, IsLineAt, IsOpen, IsOrderly, IsRefusedIn, IsReported, IsSaidIn, IsStop, IsTrue, IsWindowOf, Judged, Line, List, None, Option, Part, Refusal, Service, Some, StandsAt, StepOf, Watched, Window, [], all_pairs_push, ap, arith, begins, begins-append, cases_lt, drop, eqb, false, get_or, get_or_from_slice_get, inl, inr, length, length-append, length-take-le, line_text, listed, nat_cmp, news, one_more, refl, same_Some, slice_get, slice_get_read, slice_get_within, starts, stops, subst, sym, take, take-append-drop, take_more, times_one, ℕ, ◌++◌, ◌+◌, ◌<◌, ◌∙◌, ◌∷◌, ◌≡◌, ◌≤◌, ◌⊎◌}
 use Rattle.histories.specs.Histories.{Explains, IsOver, times}
 use Rattle.histories.proofs.Lists.{times-append, times_same}
 use Rattle.histories.proofs.Events.{over_ended}
@@ -12,7 +12,13 @@ use Rattle.service_conformance.specs.Judged.Judged.{call}
 use Rattle.service_conformance.specs.Looks.{look_of, looks_after}
 use Rattle.std.proofs.Common.{IsPermutation}
 use Rattle.std.specs.Int.{bit_at}
+use Rattle.std.specs.List.{dedup}
+use Rattle.std.specs.List.Sorted.{IsSorted}
+use Rattle.std.proofs.lemmas.List.Filters.{All-dedup}
+use Rattle.std.proofs.lemmas.List.Kept.{Contains-dedup_nat}
 use Rattle.std.proofs.lemmas.List.Sorted.{All-permutation, Contains-permutation}
+use Rattle.std.proofs.lemmas.Map.Keys.{IsStrictlyIncreasing-dedup}
+use Rattle.std.proofs.lemmas.Slice.Zip.{all_zipped_more}
 use Rattle.histories.specs.declared.front.Config.{Config}
 use Rattle.history_logs.specs.Judging.{AreBelow, IsLineMade}
 use Rattle.history_logs.specs.declared.logs.verdict.Configuration.{Configuration}
@@ -231,24 +237,19 @@ module _ (begins : List ℕ) (slots : List (Option ℕ)) (waiting : ℕ) where
         ];
   }
 
-  -- all slots, in any order of the lines
-  pub lines_all : (limit : ℕ) (lines sorted : List ℕ) → length slots ≤ limit
+  -- all slots, where the lines are sorted, and each is kept once
+  pub lines_all : (limit : ℕ) (lines sorted kept : List ℕ) → length slots ≤ limit
       → AreLinesTo begins slots waiting limit lines → IsPermutation lines sorted
-      → AreLines begins slots waiting sorted
-  lines_all limit lines sorted h l same = record {
-    made = All-permutation (IsLineMade begins slots waiting) lines sorted same l.made;
+      → IsSorted nat_cmp sorted → kept ≡ dedup eqb sorted → AreLines begins slots waiting kept
+  lines_all limit lines sorted kept h l same ordered is = rw is (record {
+    made = All-dedup eqb (IsLineMade begins slots waiting) sorted
+        (All-permutation (IsLineMade begins slots waiting) lines sorted same l.made);
     each = λ number k made at.
-        Contains-permutation lines sorted k same
+        Contains-dedup_nat sorted k (Contains-permutation lines sorted k same
         (l.each made.0 number k
-        (omega (arith, slot_within slots made.0 number made.1)) made.1 made.2 at);
-  }
-
-zip_push : {A B : Type 0} (R : A → B → Type 0) (xs : List A) (ys : List B) (x : A) (y : B)
-    → AllZip R xs ys → R x y → AllZip R (xs ++ x ∷ []) (ys ++ y ∷ [])
-zip_push R [] [] x y h r = (r, tt)
-zip_push R [] (z ∷ ys) x y h r = absurd h
-zip_push R (z ∷ xs) [] x y h r = absurd h
-zip_push R (a ∷ xs) (b ∷ ys) x y h r = (h.0, zip_push R xs ys x y h.1 r)
+        (omega (arith, slot_within slots made.0 number made.1)) made.1 made.2 at));
+    rising = IsStrictlyIncreasing-dedup sorted ordered;
+  })
 
 pub zip_next : {A B : Type 0} (R : A → B → Type 0) (xs : List A) (i : ℕ) (d : A) (ys more : List B)
     (y : B) → AllZip R (take i xs) ys → i < length xs → d ≡ get_or xs i d → R d y
@@ -256,7 +257,7 @@ pub zip_next : {A B : Type 0} (R : A → B → Type 0) (xs : List A) (i : ℕ) (
 zip_next {A} R xs i d ys more y all h is r new =
     let one : take (i + 1) xs ≡ take i xs ++ d ∷ [] =
     take_more xs i d h ∙ ap (λ (e : A). take i xs ++ e ∷ []) (sym is) in
-    rw (new, one) (zip_push R (take i xs) ys d y all r)
+    rw (new, one) (all_zipped_more R (take i xs) ys d y all r)
 
 -- what is reported of a configuration
 pub reported_of : (s : Service) (number : ℕ) (x : Judged) (slots : List (Option ℕ))
@@ -274,6 +275,7 @@ reported_of s number x slots config reported h is lines possible nodes ports = (
   record {
     made = lines.made;
     each = lines.each;
+    rising = lines.rising;
     possible = possible;
     nodes = nodes;
     ports = ports;

@@ -1,6 +1,7 @@
 -- What is found of a service of a log, and what is reported of it.
 use Rattle.std.specs.Prelude.{◌≡◌, ◌&&◌, ◌||◌, ℕ, ◌<◌, List, All, Bool, Contains, Option, Some, None, Result, Ok, Err, false, if◌then◌else◌, length, ltb, not, slice_get, sum_by, true}
 use Rattle.std.specs.List.{AllZip}
+use Rattle.std.specs.List.Sorted.{IsStrictlyIncreasing}
 use Rattle.std.specs.Int.{bit_at}
 use Rattle.histories.specs.declared.front.Event.{Event}
 use Rattle.histories.specs.declared.front.Event.TheVariants.{Begin}
@@ -42,12 +43,13 @@ pub record AreLinesTo (begins : List ℕ) (slots : List (Option ℕ)) (waiting l
   pub each : (slot number k : ℕ) → slot < limit → HasSlot slots slot number
       → bit_at waiting slot ≡ 0 → slice_get begins number ≡ Some k → Contains lines k
 
--- the lines in which all calls begin that were made
+-- the lines in which all calls begin that were made, each once and in rising order
 pub record AreLines (begins : List ℕ) (slots : List (Option ℕ)) (waiting : ℕ) (lines : List ℕ)
     : Type 0 where
   pub made : All (IsLineMade begins slots waiting) lines
   pub each : (number k : ℕ) → IsMadeIn slots waiting number → slice_get begins number ≡ Some k
       → Contains lines k
+  pub rising : IsStrictlyIncreasing lines
 
 -- the calls that begin in the events are some of the first ones, so many
 abbrev pub BeginBelow : List Event → ℕ → Type 0

@@ -1,6 +1,7 @@
 -- What a log is judged to be.
 use Rattle.std.specs.Prelude.{◌≡◌, ◌≢◌, ◌⊎◌, ◌==◌, ℕ, zero, suc, ◌+◌, ◌<◌, List, [], ◌∷◌, ◌++◌, All, Bool, Contains, Option, Some, None, IsTrue, codes, drop, eqb, filter, get_or, if◌then◌else◌, length, ltb, map, slice_get, sum_by, take, true}
 use Rattle.std.specs.List.{AllZip, dedup, flat_map}
+use Rattle.std.specs.List.Sorted.{IsStrictlyIncreasing}
 use Rattle.std.specs.Int.{bit_at}
 use Rattle.std.specs.Set.{distinct_count}
 use Rattle.histories.specs.declared.front.Event.{Event}
@@ -117,13 +118,15 @@ IsMade slots config number =
     (slot : ℕ) × HasSlot slots slot number × (bit_at config.waiting slot ≡ 0)
 
 -- What is reported of a configuration in which the call was refused: the lines in which those open
--- calls begin that were made, the replies that it could have had, and who is there.
+-- calls begin that were made, each once and in rising order, the replies that it could have had,
+-- and who is there.
 pub record IsReported (s : Service) (call : Call) (slots : List (Option ℕ))
     (config : Config Watched) (reported : Configuration) : Type 0 where
   pub made : All (λ k. (number : ℕ) × IsMade slots config number × BeginsIn s number k)
       reported.made.items
   pub each : (number k : ℕ) → IsMade slots config number → BeginsIn s number k
       → Contains reported.made.items k
+  pub rising : IsStrictlyIncreasing reported.made.items
   pub possible : AreJudgedReplies config.state call reported.possible
   pub nodes : reported.nodes.items ≡ listed config.state.service.nodes.registry
   pub ports : reported.ports.items

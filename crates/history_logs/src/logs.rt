@@ -4,7 +4,7 @@ ghost use Rattle.history_logs.specs.Fields.{AreNumbers};
 ghost use Rattle.history_logs.specs.Good.{IsReadTo};
 ghost use Rattle.history_logs.specs.Judging.{end_verdict};
 ghost use Rattle.history_logs.specs.Logs.{Judged};
-ghost use Rattle.history_logs.specs.Orders.{HasOrders, IsWitness};
+ghost use Rattle.history_logs.specs.Orders.{HasOrders};
 ghost use Rattle.history_logs.specs.Progress.{AddsCounts};
 ghost use Rattle.history_logs.specs.Reports.{report_text};
 ghost use Rattle.history_logs.specs.Seen.{Service};
@@ -31,7 +31,7 @@ pub use log_lines::LogForm;
 use ordering::judge_services;
 pub use progress::{Counts, NoProgress, Progress};
 use reading::{Reading, read_log};
-use report::{append_each, append_report};
+use report::append_report;
 use service::LogService;
 use std::alloc::{AllocError, Global};
 pub use streams::{Report, check_streams};
@@ -140,21 +140,13 @@ pub fn check_log(alloc: Global, log: &[u8]) -> Result<Verdict, AllocError>
     check_with(alloc, log, &mut NoProgress)
 }
 
-/// Judges a log, as `check_log` does: the verdict, and the text that reports it. Progress counts
-/// its lines.
-fn report_with<P: Progress>(
-    alloc: Global,
-    log: &[u8],
-    progress: &mut P,
-) -> Result<(Verdict, Vec<u8>), AllocError>
-    ensures judged { IfOk result (λ found. Judged log.now found.0) }
-    ensures text { IfOk result (λ found. found.1.items ≡ report_text found.0) }
-    ensures progress { AddsCounts (P.contents progress.old) (P.contents progress.new) }
+/// The text that reports a verdict.
+pub fn report_on(alloc: Global, verdict: &Verdict) -> Result<Vec<u8>, AllocError>
+    ensures { IfOk result (λ text. text.items ≡ report_text verdict.now) }
 {
-    let verdict = check_with(alloc, log, progress)?;
     let mut text = Vec::new(alloc);
-    append_report(&verdict, &mut text)?;
-    Ok((verdict, text))
+    append_report(verdict, &mut text)?;
+    Ok(text)
 }
 
 /// Judges a log, as `check_log` does: the verdict, and the text that reports it.
@@ -162,7 +154,23 @@ pub fn report_log(alloc: Global, log: &[u8]) -> Result<(Verdict, Vec<u8>), Alloc
     ensures judged { IfOk result (λ found. Judged log.now found.0) }
     ensures text { IfOk result (λ found. found.1.items ≡ report_text found.0) }
 {
-    report_with(alloc, log, &mut NoProgress)
+    let verdict = check_log(alloc, log)?;
+    let text = report_on(alloc, &verdict)?;
+    Ok((verdict, text))
+}
+
+/// Judges a log, as `order_log` does. Progress counts its lines.
+fn order_with<P: Progress>(
+    alloc: Global,
+    log: &[u8],
+    progress: &mut P,
+) -> Result<(Verdict, Vec<Order>), AllocError>
+    ensures judged { IfOk result (λ found. Judged log.now found.0) }
+    ensures orders { IfOk result (λ found. HasOrders log.now found.0 found.1.items) }
+    ensures progress { AddsCounts (P.contents progress.old) (P.contents progress.new) }
+{
+    let (reading, bad) = read_log(alloc, log, progress)?;
+    judge(alloc, log, &reading, bad, Cut::Never)
 }
 
 /// Judges a log, as `check_log` does. Where it conforms, there is an order for each service, by
@@ -175,37 +183,5 @@ pub fn order_log(alloc: Global, log: &[u8]) -> Result<(Verdict, Vec<Order>), All
     ensures judged { IfOk result (λ found. Judged log.now found.0) }
     ensures orders { IfOk result (λ found. HasOrders log.now found.0 found.1.items) }
 {
-    let (reading, bad) = read_log(alloc, log, &mut NoProgress)?;
-    judge(alloc, log, &reading, bad, Cut::Never)
-}
-
-/// Judges what was read of a log: the verdict, and the text that reports it with the orders.
-fn witness_read(
-    alloc: Global,
-    log: &[u8],
-    reading: &Reading,
-    bad: Option<(usize, Expected)>,
-) -> Result<(Verdict, Vec<u8>), AllocError>
-    requires read { IsReadTo log.now reading.now.services.items bad }
-    requires numbers { AreNumbers reading.now.numbers reading.now.services.items }
-    ensures judged { IfOk result (λ found. Judged log.now found.0) }
-    ensures text { IfOk result (λ found. IsWitness log.now found.0 found.1.items) }
-{
-    let (verdict, orders) = judge(alloc, log, reading, bad, Cut::Never)?;
-    let mut text = Vec::new(alloc);
-    append_report(&verdict, &mut text)?;
-    append_each(&orders, &mut text)?;
-    Ok((verdict, text))
-}
-
-/// Judges a log, as `order_log` does: the verdict, and the text that reports it. Where the log
-/// conforms, the orders are below that. Each has a line `service N`, and then the numbers of the
-/// lines in which the calls on it begin, in the order in which they took effect, one a line. A
-/// service that began anew is there once more for each time.
-pub fn witness_log(alloc: Global, log: &[u8]) -> Result<(Verdict, Vec<u8>), AllocError>
-    ensures judged { IfOk result (λ found. Judged log.now found.0) }
-    ensures text { IfOk result (λ found. IsWitness log.now found.0 found.1.items) }
-{
-    let (reading, bad) = read_log(alloc, log, &mut NoProgress)?;
-    witness_read(alloc, log, &reading, bad)
+    order_with(alloc, log, &mut NoProgress)
 }

@@ -2,7 +2,7 @@
 
 use super::bounds::{deaths, open_calls};
 use super::rows::{Row, Said, are_judged, verdict_on};
-use history_logs::logs::{Expected, witness_log};
+use history_logs::logs::{Expected, order_log};
 use std::process::Abort;
 use std::test::Fail;
 
@@ -188,11 +188,15 @@ fn the_first_bound_is_reported(rt: HostRuntime) -> Result<(), Fail> {
 }
 
 #[test]
-fn a_witness_has_each_time_for_itself(rt: HostRuntime) -> Result<(), Fail> {
+fn there_is_an_order_for_each_time(rt: HostRuntime) -> Result<(), Fail> {
     let mut log = String::from_str(rt.alloc(), CALLED)?;
     log.push_str("nodes\n= list 1000000000000000000000001\nstate nodes 4\nnodes\n= list\n")?;
-    let (_verdict, text) = witness_log(rt.alloc(), log.as_bytes())?;
-    let wanted = "conforms, 3 calls on 1 service\nservice 7\n3\n5\nservice 7\n8\n";
-    assert!(rt; text.as_slice() == wanted.as_bytes());
+    let (_verdict, orders) = order_log(rt.alloc(), log.as_bytes())?;
+    let mut found = Vec::new(rt.alloc());
+    for order in &orders {
+        found.push(order.service as usize)?;
+        found.extend_from_slice(&order.lines)?;
+    }
+    assert!(rt; found.as_slice() == [7, 3, 5, 7, 8].as_slice());
     Ok(())
 }

@@ -76,6 +76,7 @@ fn first_refused(alloc: Global, log: &[u8], reported: Refusal) -> Result<Refusal
 }
 
 /// The verdict on a log, by what is found in all its good lines.
+#[tactic(auto, unfolding(crate::specs::Logs::Judged))]
 pub(super) fn decide(alloc: Global, log: &[u8], found: Verdict) -> Result<Verdict, AllocError>
     requires { IsFoundByAll log.now found }
     ensures judged { IfOk result (Judged log.now) }

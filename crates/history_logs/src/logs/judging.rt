@@ -57,7 +57,7 @@ fn add_line(
     Ok(())
 }
 
-/// The lines in which the open calls begin that were made in the configuration.
+/// The lines in which the open calls begin that were made in the configuration, in rising order.
 fn lines_made(
     alloc: Global,
     begins: &[usize],
@@ -73,6 +73,7 @@ fn lines_made(
         add_line(begins, slots, waiting, slot, &mut lines)?;
     }
     lines.sort_unstable();
+    lines.dedup();
     Ok(lines)
 }
 

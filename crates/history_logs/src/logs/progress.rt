@@ -85,6 +85,7 @@ impl<C: Clock + Drop, W: Sink + Drop> Counts<C, W> {
     }
 
     /// The text is written. Where it fails, nothing more is.
+    #[tactic(auto, using(crate::proofs::Reports::count_written))]
     fn write(&mut self, text: &[u8])
         requires { IsCount text.now }
         ensures { AddsCounts (W.contents self.old.out) (W.contents self.new.out) }

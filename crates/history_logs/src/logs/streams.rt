@@ -9,9 +9,9 @@ ghost use Rattle.history_logs.specs.Progress.{AddsCounts};
 ghost use Rattle.history_logs.specs.Reports.{on_errors, on_output, status_of};
 
 use super::progress::Progress;
-use super::reading::read_log;
+use super::report::append_each;
 use super::verdict::Verdict;
-use super::{report_with, witness_read};
+use super::{check_with, order_with, report_on};
 use line_streams::{
     Outcome, Sink, Source, Status, read_all, report_failure, write_outcome, write_whole,
 };
@@ -83,12 +83,14 @@ fn verdict_on<P: Progress>(
 {
     match report {
         Report::Verdict => {
-            let (verdict, text) = report_with(alloc, log, progress)?;
+            let verdict = check_with(alloc, log, progress)?;
+            let text = report_on(alloc, &verdict)?;
             Ok(Judgement { verdict, text })
         }
         Report::Witness => {
-            let (reading, bad) = read_log(alloc, log, progress)?;
-            let (verdict, text) = witness_read(alloc, log, &reading, bad)?;
+            let (verdict, orders) = order_with(alloc, log, progress)?;
+            let mut text = report_on(alloc, &verdict)?;
+            append_each(&orders, &mut text)?;
             Ok(Judgement { verdict, text })
         }
     }
@@ -143,7 +145,9 @@ fn run<R: Source, W: Sink, E: Sink, P: Progress>(
 /// Judges the log that the reader gives, and answers the status of the program.
 ///
 /// - 0: orders of the calls explain the replies. `conforms, N calls on M services` was written to
-///   `output`; for a witness also an order of the calls on each service, as `witness_log` has it.
+///   `output`. For a witness there is below that an order for each service, as `order_log` has it:
+///   a line `service N`, and then the lines in which the calls on it begin, in the order in which
+///   they took effect, one a line.
 /// - 1: none do. The first reply that none explains was written to `output`: its line, its words,
 ///   the command of its call, the line from which the window is open, and the lines of the calls
 ///   that are needed. Below them stands of each configuration which open calls were made, each

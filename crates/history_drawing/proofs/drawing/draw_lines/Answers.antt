@@ -7,8 +7,8 @@ use Rattle.history_drawing.specs.declared.timeline.Bar.{Bar}
 use Rattle.history_drawing.specs.declared.timeline.Timeline.{Timeline}
 use Rattle.history_drawing.proofs.drawing.draw_lines.Goals as goal
 
-pub points_in-requires : goal.points_in-requires
-points_in-requires c =
+pub points_of-requires : goal.points_of-requires
+points_of-requires c =
     let shown = rw c.in-Some.is at c.in_ok-timeline.ensures.some in
     subst (λ (l : List Bar). AllPairs (λ (one other : Bar). one.begin < other.begin) l)
     (sym c.deref.ensures.value) shown.bars.rising
@@ -19,7 +19,7 @@ drawn-requires c =
     let points = c.in_ok-timeline-2.field-0 in
     let t : Timeline = record c.in-Some.timeline { points = points } in
     drawable c.args.lines.now c.args.window.now _ t shown.bars
-    (in_bars c.args.log.now c.args.refused t.bars.items points.items
+    (in_bars t.bars.items c.args.orders.now points.items
     (rw c.deref.ensures.value at c.in_ok-timeline-2.ensures))
 
 pub returns-in_default : goal.returns-in_default

@@ -17,5 +17,5 @@ pub returns : goal.returns
 returns c =
     let is = whole c.args.log.now c.as_slice-lines.result.now c.saturating_sub.result
     (rw c.as_slice-lines.ensures.value c.in_ok-lines.ensures) (search rules) in
-    IfOk-weaker _ _ (DrawsAll c.args.log.now c.args.report.now) (λ d h. (_, _, is, h))
-    c.draw_lines.ensures
+    IfOk-weaker _ _ (DrawsAll c.args.log.now c.args.orders.now c.args.report.now)
+    (λ d h. (_, _, is, h)) c.draw_lines.ensures
