@@ -28,8 +28,8 @@ const CONTRADICTIONS: [(&[u8], &str); 11] = [
     ),
     (
         b"[global]\nroot-path = \"C:\\temp\\new\"\n",
-        ":2:1: warning: global.root-path: is \"\"\"\\u{a}C:\\temp\\u{a}ew\"\"\": a path that does not \
-         begin with / is another one in each working directory",
+        ":2:1: warning: global.root-path: is \"C:\\temp\\new\": a path that does not begin with / is \
+         another one in each working directory",
     ),
     (
         b"global.service.connection-suffix = '.data'\n",
