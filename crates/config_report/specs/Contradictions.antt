@@ -215,7 +215,7 @@ effect_text SameNames = codes "files of both kinds cannot be distinguished by th
 effect_text LongNames =
     codes "with a hash text of 27 bytes between them, names of files have more than 255 bytes"
 effect_text LongPath =
-    codes "joined they have more than 255 bytes, so there is no such directory"
+    codes "joined they have more than 255 bytes, and the middleware panics as it joins them"
 effect_text SmallBuffer =
     codes "without safe overflow a buffer must hold the whole history"
 effect_text UselessLimit = codes "with this limit no service of the pattern can be used"

@@ -178,8 +178,8 @@ fn long_paths_are_reported(rt: HostRuntime) -> Result<(), Fail> {
         );
         let (status, output) = said_of_directory(rt.alloc(), table, 54)?;
         let end =
-            b"r\": joined they have more than 255 bytes, so there is no such directory\n0 errors, 1 \
-            warning\n";
+            b"r\": joined they have more than 255 bytes, and the middleware panics as it joins \
+            them\n0 errors, 1 warning\n";
         let ends = output.starts_with(begin) && output.ends_with(end.as_slice());
         assert_eq!(rt; (status, ends), (1, true));
     }
