@@ -28,6 +28,8 @@ pub(crate) enum Effect {
     SmallBuffer,
     /// A limit of 0.
     UselessLimit,
+    /// A path or a name that has a control character.
+    ControlCharacter,
 }
 
 impl fmt::Display for Effect {
@@ -48,6 +50,7 @@ impl fmt::Display for Effect {
             }
             Effect::SmallBuffer => { "without safe overflow a buffer must hold the whole history" }
             Effect::UselessLimit => "with this limit no service of the pattern can be used",
+            Effect::ControlCharacter => "it has a control character",
         })
     }
 }

@@ -5,7 +5,7 @@ use std::alloc::{AllocError, Global};
 use std::test::Fail;
 
 /// Files, and what is said of each, without its name.
-const CONTRADICTIONS: [(&[u8], &str); 11] = [
+const CONTRADICTIONS: [(&[u8], &str); 14] = [
     (
         b"defaults.event.notifier-created-event = 256\n",
         ":1:1: warning: defaults.event.notifier-created-event: is 256, and \
@@ -27,9 +27,21 @@ const CONTRADICTIONS: [(&[u8], &str); 11] = [
          another one in each working directory",
     ),
     (
-        b"[global]\nroot-path = \"C:\\temp\\new\"\n",
-        ":2:1: warning: global.root-path: is \"C:\\temp\\new\": a path that does not begin with / is \
-         another one in each working directory",
+        b"[global]\nroot-path = \"/\\temp\\new\"\n",
+        ":2:1: warning: global.root-path: is \"/\\temp\\new\": it has a control character",
+    ),
+    (
+        b"[global]\nprefix = \"a\\r\"\n",
+        ":2:1: warning: global.prefix: is \"a\\r\": it has a control character",
+    ),
+    (
+        b"global.service.connection-suffix = \"\\u001f\"\n",
+        ":1:1: warning: global.service.connection-suffix: is \"\\u001F\": it has a control \
+         character",
+    ),
+    (
+        b"[global.node]\n'directory' = \"\\u007f\"\n",
+        ":2:1: warning: global.node.directory: is \"\\u007F\": it has a control character",
     ),
     (
         b"global.service.connection-suffix = '.data'\n",
@@ -67,7 +79,8 @@ const CONTRADICTIONS: [(&[u8], &str); 11] = [
 ];
 
 /// Files of which nothing is said: each is nearly one that contradicts itself.
-const NEARLY: [&[u8]; 8] = [
+const NEARLY: [&[u8]; 9] = [
+    b"global = { root-path = '/ ~\\new', prefix = ' ~' }\n",
     b"defaults.event.notifier-created-event = 255\n",
     b"[defaults.event]\nnotifier-dead-event = 5\nevent-id-max-value = 5\n",
     b"defaults.event.event-id-max-value = 0\n",

@@ -24,7 +24,8 @@ const REPORTED: [(&[u8], &str); 53] = [
     ),
     (
         b"global.root-path = \"\"\"/\n[defaults]\nsize = 1\"\"\"\nsize = 2",
-        "4:1: warning: size: this table has no such key\n",
+        "1:1: warning: global.root-path: is \"/\\n[defaults]\\nsize = 1\": it has a control \
+         character\n4:1: warning: size: this table has no such key\n",
     ),
     (
         b"a = [\n  '''\nsize = 1''', # [\n  { size = [ 1,\n ] }\n]\nsize = 2\n",
