@@ -1,13 +1,15 @@
 -- Which settings of a configuration contradict each other, and what is said of them.
-use Rattle.std.specs.Prelude.{ℕ, ◌+◌, Bool, true, false, not, ◌&&◌, ◌||◌, nat_eq, nat_lt, if◌then◌else◌, List, [], ◌∷◌, ◌++◌, codes, length, flat_map, Option, Some, None}
+use Rattle.std.specs.Prelude.{ℕ, ◌+◌, Bool, true, false, not, ◌&&◌, ◌||◌, nat_eq, nat_lt, if◌then◌else◌, List, [], ◌∷◌, ◌++◌, codes, length, map, flat_map, Option, Some, None}
 use Rattle.config_report.specs.Prelude.{bytes_eq, Config, Defaults, Service, prefix_of, table_path, SettingValue, number, text, value_text, value_view, Section, Warning, Position}
+use Rattle.std.specs.List.{list_any}
 use Rattle.iox2_config.specs.GlobalSettings.{GlobalSettings}
+use Rattle.iox2_config.specs.declared.config.global.Node.{Node}
 use Rattle.iox2_config.specs.declared.config.defaults.Event.{Event}
 use Rattle.iox2_config.specs.declared.config.defaults.PublishSubscribe.{PublishSubscribe}
 use Rattle.config_report.specs.Notes.{Note, note, position_for}
 use Rattle.config_report.specs.declared.contradiction.Contradiction.{Contradiction as Held}
 use Rattle.config_report.specs.declared.contradiction.Effect.{Effect}
-use Rattle.config_report.specs.declared.contradiction.Effect.TheVariants.{UnsentEvent, ManyRoots, SameNames, LongNames, LongPath, SmallBuffer, UselessLimit}
+use Rattle.config_report.specs.declared.contradiction.Effect.TheVariants.{UnsentEvent, ManyRoots, SameNames, LongNames, LongPath, SmallBuffer, UselessLimit, ControlCharacter}
 use Rattle.config_report.specs.declared.contradiction.Side.{Side as HeldSide}
 use Rattle.config_report.specs.declared.contradictions.Candidate.{Candidate}
 use Rattle.config_report.specs.declared.contradictions.Suffix.{Suffix}
@@ -114,6 +116,44 @@ directory_contradictions g =
     long_directory g.root_path section.Service g.service.directory
     ++ long_directory g.root_path section.Node g.node.directory
 
+-- a byte of the text is a control character
+abbrev pub has_control : List ℕ → Bool
+has_control bytes = list_any (λ b. nat_lt b 32 || nat_eq b 127) bytes
+
+-- the paths and the names of a system, of services and of nodes, by their tables and keys
+abbrev pub global_texts : GlobalSettings → List (Section × List ℕ × List ℕ)
+global_texts g =
+    (section.Global, codes "root-path", g.root_path)
+    ∷ (section.Global, codes "prefix", g.prefix)
+    ∷ []
+
+abbrev pub service_texts : Service → List (Section × List ℕ × List ℕ)
+service_texts s =
+    (section.Service, codes "directory", s.directory)
+    ∷ map (λ x. (section.Service, x.0, x.1)) (suffixes_of s)
+
+abbrev pub node_texts : Node → List (Section × List ℕ × List ℕ)
+node_texts n =
+    (section.Node, codes "directory", n.directory)
+    ∷ (section.Node, codes "monitor-suffix", n.monitor_suffix)
+    ∷ (section.Node, codes "static-config-suffix", n.static_config_suffix)
+    ∷ (section.Node, codes "service-tag-suffix", n.service_tag_suffix)
+    ∷ (section.Node, codes "port-tag-suffix", n.port_tag_suffix)
+    ∷ (section.Node, codes "global-mgmt-suffix", n.global_mgmt_suffix)
+    ∷ []
+
+-- the text has a control character
+abbrev pub control_text : Section × List ℕ × List ℕ → List Contradiction
+control_text (s, key, value) =
+    where_so (has_control value) (s, key, text value) None ControlCharacter
+
+-- those of them that have one
+abbrev pub control_contradictions : GlobalSettings → List Contradiction
+control_contradictions g =
+    flat_map control_text (global_texts g)
+    ++ (flat_map control_text (service_texts g.service)
+    ++ flat_map control_text (node_texts g.node))
+
 -- the history is larger than a subscriber's buffer, which may not overflow
 abbrev pub has_small_buffer : PublishSubscribe → Bool
 has_small_buffer p =
@@ -193,7 +233,8 @@ abbrev pub global_contradictions : GlobalSettings → List Contradiction
 global_contradictions g =
     root_contradictions g
     ++ (suffix_contradictions (suffixes_of g.service)
-    ++ (flat_map (long_name g.prefix) (suffixes_of g.service) ++ directory_contradictions g))
+    ++ (flat_map (long_name g.prefix) (suffixes_of g.service)
+    ++ (directory_contradictions g ++ control_contradictions g)))
 
 -- the settings of services that contradict each other
 abbrev pub default_contradictions : Defaults → List Contradiction
@@ -215,10 +256,11 @@ effect_text SameNames = codes "files of both kinds cannot be distinguished by th
 effect_text LongNames =
     codes "with a hash text of 27 bytes between them, names of files have more than 255 bytes"
 effect_text LongPath =
-    codes "joined they have more than 255 bytes, so there is no such directory"
+    codes "joined they have more than 255 bytes, and the middleware panics as it joins them"
 effect_text SmallBuffer =
     codes "without safe overflow a buffer must hold the whole history"
 effect_text UselessLimit = codes "with this limit no service of the pattern can be used"
+effect_text ControlCharacter = codes "it has a control character"
 
 -- what is said of one setting beside the other, if there is one
 abbrev pub beside_text : Side → Option Side → Effect → List ℕ

@@ -28,6 +28,8 @@ pub(crate) enum Effect {
     SmallBuffer,
     /// A limit of 0.
     UselessLimit,
+    /// A path or a name that has a control character.
+    ControlCharacter,
 }
 
 impl fmt::Display for Effect {
@@ -44,10 +46,11 @@ impl fmt::Display for Effect {
                 "with a hash text of 27 bytes between them, names of files have more than 255 bytes"
             }
             Effect::LongPath => {
-                "joined they have more than 255 bytes, so there is no such directory"
+                "joined they have more than 255 bytes, and the middleware panics as it joins them"
             }
             Effect::SmallBuffer => { "without safe overflow a buffer must hold the whole history" }
             Effect::UselessLimit => "with this limit no service of the pattern can be used",
+            Effect::ControlCharacter => "it has a control character",
         })
     }
 }

@@ -3,6 +3,9 @@ ghost use Rattle.std.specs.Prelude.{◌≡◌, ◌++◌, IfOk, OnOk, flat_map, m
 ghost use Rattle.std.specs.Prelude.{option_copied};
 ghost use Rattle.iox2_config_file.specs.Write.{value_view};
 ghost use Rattle.config_report.specs.Contradictions.{candidate_view, contradiction_view};
+ghost use Rattle.config_report.specs.Contradictions.{control_contradictions, control_text};
+ghost use Rattle.config_report.specs.Contradictions.{global_texts, has_control, node_texts};
+ghost use Rattle.config_report.specs.Contradictions.{service_texts};
 ghost use Rattle.config_report.specs.Contradictions.{contradictions_in, default_contradictions};
 ghost use Rattle.config_report.specs.Contradictions.{directory_contradictions, long_directory};
 ghost use Rattle.config_report.specs.Contradictions.{event_contradictions, global_contradictions};
@@ -16,7 +19,7 @@ ghost use Rattle.iox2_texts.specs.Path.{MakesJoined};
 
 use crate::contradiction::{Contradiction, Effect, Side};
 use iox2_config::config::{
-    Config, Defaults, Event, Global as GlobalSettings, PublishSubscribe, Service,
+    Config, Defaults, Event, Global as GlobalSettings, Node, PublishSubscribe, Service,
 };
 use iox2_config_file::{Section, SettingValue};
 use iox2_texts::bounded::SemanticStringError;
@@ -211,6 +214,117 @@ fn directories(global: &GlobalSettings) -> [Candidate<'_>; 2]
     ]
 }
 
+/// Whether a byte of a text is a control character.
+fn has_control(text: &str) -> bool
+    ensures { result ≡ has_control text.now }
+{
+    text.as_bytes().iter().any(|b| *b < 32 || *b == 127)
+}
+
+/// A path or a name that has a control character.
+fn control<'a>(section: Section, key: &'static str, text: &'a str) -> Candidate<'a>
+    ensures { candidate_view result ≡ control_text (section, key.now, text.now) }
+{
+    Candidate {
+        holds: has_control(text),
+        found: Contradiction {
+            one: side(section, key, SettingValue::Text(text)),
+            other: None,
+            effect: Effect::ControlCharacter,
+        },
+    }
+}
+
+/// A path that has a control character.
+fn path_control<'a>(section: Section, key: &'static str, path: &'a Path) -> Candidate<'a>
+    ensures { candidate_view result ≡ control_text (section, key.now, path.now) }
+{
+    control(section, key, path.as_str())
+}
+
+/// A name that has a control character.
+fn name_control<'a>(section: Section, key: &'static str, name: &'a FileName) -> Candidate<'a>
+    ensures { candidate_view result ≡ control_text (section, key.now, name.now) }
+{
+    control(section, key, name.as_str())
+}
+
+/// The path and the name of a system.
+fn global_controls(global: &GlobalSettings) -> [Candidate<'_>; 2]
+    ensures { flat_map candidate_view result ≡ flat_map control_text (global_texts global.now) }
+{
+    let table = Section::Global;
+    [
+        path_control(table, "root-path", global.root_path()),
+        name_control(table, "prefix", &global.prefix),
+    ]
+}
+
+/// The path and the names of services' files.
+fn service_controls(service: &Service) -> [Candidate<'_>; 8]
+    ensures { flat_map candidate_view result ≡ flat_map control_text (service_texts service.now) }
+{
+    let table = Section::Service;
+    [
+        path_control(table, "directory", &service.directory),
+        name_control(table, "data-segment-suffix", &service.data_segment_suffix),
+        name_control(
+            table,
+            "static-config-storage-suffix",
+            &service.static_config_storage_suffix,
+        ),
+        name_control(
+            table,
+            "dynamic-config-storage-suffix",
+            &service.dynamic_config_storage_suffix,
+        ),
+        name_control(table, "connection-suffix", &service.connection_suffix),
+        name_control(
+            table,
+            "event-connection-suffix",
+            &service.event_connection_suffix,
+        ),
+        name_control(
+            table,
+            "blackboard-mgmt-suffix",
+            &service.blackboard_mgmt_suffix,
+        ),
+        name_control(
+            table,
+            "blackboard-data-suffix",
+            &service.blackboard_data_suffix,
+        ),
+    ]
+}
+
+/// The path and the names of nodes' files.
+fn node_controls(node: &Node) -> [Candidate<'_>; 6]
+    ensures { flat_map candidate_view result ≡ flat_map control_text (node_texts node.now) }
+{
+    let table = Section::Node;
+    [
+        path_control(table, "directory", &node.directory),
+        name_control(table, "monitor-suffix", &node.monitor_suffix),
+        name_control(table, "static-config-suffix", &node.static_config_suffix),
+        name_control(table, "service-tag-suffix", &node.service_tag_suffix),
+        name_control(table, "port-tag-suffix", &node.port_tag_suffix),
+        name_control(table, "global-mgmt-suffix", &node.global_mgmt_suffix),
+    ]
+}
+
+/// Adds each path and each name of a system that has a control character.
+fn add_controls<'a>(
+    list: &mut Vec<Contradiction<'a>>,
+    global: &'a GlobalSettings,
+) -> Result<(), AllocError>
+    ensures { OnOk result (map contradiction_view list.new.items
+        ≡ map contradiction_view list.old.items ++ control_contradictions global.now) }
+{
+    add_all(list, &global_controls(global))?;
+    add_all(list, &service_controls(&global.service))?;
+    add_all(list, &node_controls(&global.node))
+}
+
 /// Whether the history is larger than a subscriber's buffer, which may not overflow.
 fn has_small_buffer(settings: &PublishSubscribe) -> bool
     ensures { result ≡ has_small_buffer settings.now }
@@ -350,7 +464,8 @@ fn add_global<'a>(
     add_root(list, global)?;
     add_suffixes(list, &kinds)?;
     add_names(list, &global.prefix, &kinds)?;
-    add_all(list, &directories(global))
+    add_all(list, &directories(global))?;
+    add_controls(list, global)
 }
 
 /// Adds all settings of services that contradict each other.

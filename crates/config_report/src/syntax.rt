@@ -10,8 +10,8 @@ use toml_parser::text::{first, skip, skip_blank};
 use toml_parser::{Key, ParseError, dotted_key, quoted, starts_string, unquoted};
 
 /// Why a text is no TOML: the words of `toml`, with the key that is written twice, leads through a
-/// value or has a number that is out of range, or with more of what a value may be. The texts are
-/// the whole one and that from the error on.
+/// value or has a number that is out of range, with the character that no key without quotes has,
+/// or with more of what may be written. The texts are the whole one and that from the error on.
 pub(crate) fn syntax_words(
     alloc: Global,
     error: &toml::de::Error,
@@ -19,6 +19,10 @@ pub(crate) fn syntax_words(
     text: &str,
 ) -> Result<String, AllocError> {
     let (words, at_key) = match error.message() {
+        _ if is_lone_return(text) => {
+            return String::from_str(alloc, "a carriage return without a newline after it");
+        }
+        words if is_of_keys(words) && !is_ascii_first(text) => return no_bare_key(alloc, text),
         "duplicate key" => ("duplicate key", text),
         "cannot extend a value with a dotted key" => ("cannot extend a value with the key", text),
         words if tells_large_number(words, text) => {
@@ -32,11 +36,62 @@ pub(crate) fn syntax_words(
                  date-time, an array or an inline table",
             );
         }
+        "invalid escape sequence" => {
+            return String::from_str(
+                alloc,
+                "invalid escape sequence, a backslash is written `\\\\`, or the text in single quotes",
+            );
+        }
         words => return String::from_str(alloc, words),
     };
-    match first_key(alloc, past_brackets(at_key))? {
-        Some(key) => format!(in alloc; "{words} `{}`", key.as_str()),
-        None => String::from_str(alloc, error.message()),
+    let at_key = past_brackets(at_key);
+    let Some(key) = first_key(alloc, at_key)? else {
+        return String::from_str(alloc, error.message());
+    };
+    let key = key.as_str();
+    if words == "duplicate key" && is_dotted(alloc, at_key)? {
+        format!(in alloc; "the key `{key}`, or a table that it leads through, stands already")
+    } else {
+        format!(in alloc; "{words} `{key}`")
+    }
+}
+
+/// Whether a text begins with a carriage return that no newline follows.
+fn is_lone_return(text: &str) -> bool {
+    text.starts_with('\r') && !text.starts_with("\r\n")
+}
+
+/// Whether the words are said where a key goes on or ends.
+fn is_of_keys(words: &str) -> bool {
+    matches!(
+        words,
+        "invalid key, expected letters, numbers, `-`, `_` or a quoted key"
+            | "key with no value, expected `=`"
+            | "unclosed table, expected `]`"
+            | "unclosed array table, expected `]]`"
+    )
+}
+
+/// Whether the first character of a text, if there is one, is ASCII.
+fn is_ascii_first(text: &str) -> bool {
+    text.as_bytes().first().is_none_or(|byte| byte.is_ascii())
+}
+
+/// That no key without quotes has the first character of a text.
+fn no_bare_key(alloc: Global, text: &str) -> Result<String, AllocError> {
+    let code = text.chars().next().map_or(0, u32::from);
+    format!(in alloc;
+        "U+{code:04X} in a key without quotes, expected ASCII letters, digits, `-`, `_`"
+    )
+}
+
+/// Whether a text begins with a key of several parts.
+fn is_dotted(alloc: Global, text: &str) -> Result<bool, AllocError> {
+    let read = dotted_key(alloc, text);
+    match read {
+        Ok((key, _rest)) => Ok(!key.path.is_empty()),
+        Err(ParseError::OutOfMemory) => Err(AllocError),
+        Err(_) => Ok(false),
     }
 }
 

@@ -1,17 +1,24 @@
 -- How the lines of a file are read, one piece of the text after another.
 use Rattle.std.proofs.lemmas.Grind.{common_steps}
-use Rattle.std.proofs.Common.{◌≡◌, ℕ, suc, ◌-◌, ◌<◌, ◌≤◌, true, false, ◌==◌, List, [], ◌∷◌, ◌++◌, length, codes, Option, Some, option_map, option_and_then, refl, ◌∙◌, arith, append_assoc, append-nil, length-append, rules}
+use Rattle.std.proofs.Common.{◌≡◌, ℕ, suc, ◌-◌, ◌<◌, ◌≤◌, Bool, true, false, ◌==◌, List, [], ◌∷◌, ◌++◌, length, codes, Option, Some, option_map, option_and_then, refl, ◌∙◌, inl, inr, arith, append_assoc, append-nil, length-append, rules}
 use Rattle.std.specs.List.{list_all}
+use Rattle.std.specs.Prelude.{nat_lt}
+use Rattle.std.proofs.lemmas.Bool.{cases_Bool}
 use Rattle.std.proofs.lemmas.Bool.Decides.{nat_tests}
-use Rattle.toml_parser.specs.Lexical.{first, is_non_eol, skip_blank, skip_from}
-use Rattle.toml_parser.specs.Strings.{Key}
-use Rattle.toml_writer.specs.Text.{key_text, dotted_text}
-use Rattle.toml.specs.Data.{Data, depth, has_valid_dates}
+use Rattle.toml_parser.specs.Lexical.{first, is_bare, is_non_eol, skip_blank, skip_from, skip_ws}
+use Rattle.toml_parser.proofs.LexicalLemmas.{skip_ws_none}
+use Rattle.toml_parser.specs.Strings.{Key, body, one_line, quoted}
+use Rattle.toml_writer.specs.Text.{basic, dotted_text, encoded, escaped, has, key_text, needs_escape}
+use Rattle.toml_writer.proofs.Bodies.{body_escaped, escaped-cons}
+use Rattle.toml_writer.proofs.Escapes.{Escaped-needed, apart_from_plain, needs_quote}
+use Rattle.toml_writer.proofs.Strings.{is_key_start-key_text}
+use Rattle.toml.specs.Data.{Data, depth, has_valid_dates, string}
 use Rattle.toml.specs.Tables.{no_nodes, close, Document, Definition, Expression, define, key_value, std_table}
-use Rattle.toml.specs.Parse.{line, lines, skip_bom, parse_document}
+use Rattle.toml.specs.Parse.{atom, ends_line, expression, line, lines, skip_bom, parse_document, val}
 use Rattle.toml.specs.Text.{IsValueText}
-use Rattle.toml.proofs.Turns.{lines_end, lines_more, lines_refused}
-use Rattle.toml.proofs.Blanks.{skip_newline, skip_within}
+use Rattle.toml.proofs.ReadValues.{key_equals-pair, read_value, value_start}
+use Rattle.toml.proofs.Turns.{keyval_ok, lines_end, lines_more, lines_refused, val_atom}
+use Rattle.toml.proofs.Blanks.{skip_newline, skip_start, skip_within, starts_value}
 use Rattle.toml.proofs.Fill.{run-append}
 use Rattle.toml.proofs.ReadLines.{run, Turn, line_turn}
 
@@ -97,12 +104,107 @@ leads_below : (key : Key) (def : Definition) (t rest : List ℕ) → Turn key de
     → Leads (10 ∷ t) ((key, def) ∷ []) (10 ∷ rest)
 leads_below key def t rest turn = grind (arith, leads_then, leads_skip, skip_newline, leads_line)
 
-pub block_pair : (k v : List ℕ) (d : Data) → IsValueText false d v → depth d ≤ 80
-    → has_valid_dates d ≡ true
+-- at the end of a line the text is read as this value
+pub record IsRead (d : Data) (v : List ℕ) : Type 0 where
+  pub start : (rest : List ℕ) → starts_value (first (v ++ 10 ∷ rest)) ≡ true
+  pub whole : (rest : List ℕ) → val 80 (v ++ 10 ∷ rest) ≡ Some (d, 10 ∷ rest)
+
+pub value_read : (d : Data) (v : List ℕ) → IsValueText false d v → depth d ≤ 80
+    → has_valid_dates d ≡ true → IsRead d v
+value_read d v text deep valid = record {
+  start = λ rest. (value_start false d v (10 ∷ rest) text valid).1;
+  whole = λ rest.
+      read_value false d 80 v (10 ∷ rest) text deep valid ((refl, refl), (refl, refl));
+}
+
+-- a text with a newline, as it is written where it is a key, is read as a value too
+is_escaped : (c : ℕ) (cs rest : List ℕ) → (first (escaped false 0 (c ∷ cs) ++ rest) == 34) ≡ false
+is_escaped c cs rest =
+    let step = escaped-cons false 0 c cs rest in
+    elim (cases_Bool (needs_escape false 0 c)) [
+      | inl needed ↦
+          let e = Escaped-needed false 0 c needed in rw (step, needed, e.text) refl
+      | inr plain ↦
+          rw (step, plain) (apart_from_plain false 0 c 34 plain (needs_quote 0))
+    ]
+
+none_all : (p : ℕ → Bool) (s : List ℕ) → p 10 ≡ false → has 10 s ≡ true → list_all p s ≡ false
+none_all p [] other some = absurd (grind (arith, some))
+none_all p (c ∷ cs) other some = grind (arith, nat_tests, none_all p cs)
+
+quoted_one_line : (t : List ℕ) → (first t == 34) ≡ false
+    → quoted (34 ∷ t) ≡ body 34 false (suc (length t)) t
+unfolding quoted one_line
+quoted_one_line t other = rw other refl
+
+quoted_line : (c : ℕ) (cs rest : List ℕ)
+    → quoted (encoded basic (c ∷ cs) ++ 10 ∷ rest) ≡ Some (c ∷ cs, 10 ∷ rest)
+quoted_line c cs rest =
+    let t = escaped false 0 (c ∷ cs) ++ 34 ∷ 10 ∷ rest in
+    let e : encoded basic (c ∷ cs) ++ 10 ∷ rest ≡ 34 ∷ t = simp append_assoc refl in
+    rw e (quoted_one_line t (is_escaped c cs (34 ∷ 10 ∷ rest))
+    ∙ body_escaped false (c ∷ cs) (10 ∷ rest) 0 _ (omega arith) refl (omega arith))
+
+atom_line : (c : ℕ) (cs rest : List ℕ)
+    → atom (encoded basic (c ∷ cs) ++ 10 ∷ rest) ≡ Some (string (c ∷ cs), 10 ∷ rest)
+unfolding atom
+atom_line c cs rest = rw (quoted_line c cs rest) refl
+
+key_line : (s : List ℕ) → has 10 s ≡ true → key_text s ≡ encoded basic s
+unfolding key_text
+key_line s some =
+    let bare = none_all is_bare s refl some in
+    let plain = none_all is_non_eol s refl some in
+    elim (cases_Bool (nat_lt 0 (length s))) [
+      | inl long ↦ rw (bare, plain, long) refl
+      | inr none ↦ rw (bare, plain, none) refl
+    ]
+
+pub line_read : (s : List ℕ) → has 10 s ≡ true → IsRead (string s) (key_text s)
+line_read [] some = absurd (grind (arith, some))
+line_read (c ∷ cs) some =
+    let is = key_line (c ∷ cs) some in record {
+      start = λ rest. rw is refl;
+      whole = λ rest. rw is (val_atom 80 _ refl refl ∙ atom_line c cs rest);
+    }
+
+line_pair : (k v rest : List ℕ) (d : Data) → IsRead d v
+    → line (key_text k ++ (codes " = " ++ (v ++ 10 ∷ rest)))
+    ≡ Some ((([], k), key_value d), 10 ∷ rest)
+unfolding line expression
+line_pair k v rest d is =
+    let value_at = v ++ 10 ∷ rest in
+    let s = key_text k ++ (codes " = " ++ value_at) in
+    let pair = keyval_ok (val 80) s value_at (10 ∷ rest) ([], k) d
+    (key_equals-pair k value_at (is.start rest)) (is.whole rest) in
+    let key_first = is_key_start-key_text k (codes " = " ++ value_at) in
+    let other : (first s == 91) ≡ false = grind (arith, nat_tests) in
+    let ends : ends_line (skip_ws (10 ∷ rest)) ≡ true =
+    rw (skip_ws_none (10 ∷ rest) refl) (grind (arith, nat_tests)) in
+    rw (other, pair, ends) refl
+
+pair_turn : (k v rest : List ℕ) (d : Data) → IsRead d v
+    → Turn ([], k) (key_value d) ((key_text k ++ (codes " = " ++ (v ++ 10 ∷ []))) ++ rest) rest
+pair_turn k v rest d is =
+    let s = key_text k ++ (codes " = " ++ (v ++ 10 ∷ rest)) in
+    let same : (key_text k ++ (codes " = " ++ (v ++ 10 ∷ []))) ++ rest ≡ s =
+    simp append_assoc refl in
+    let key_first = is_key_start-key_text k (codes " = " ++ (v ++ 10 ∷ rest)) in
+    let start : starts_value (first s) ≡ true = grind (arith, nat_tests) in
+    let key_size = length-append (key_text k) (codes " = " ++ (v ++ 10 ∷ rest)) in
+    let value_size = length-append v (10 ∷ rest) in (
+      s,
+      rw same (skip_start s start),
+      line_pair k v rest d is,
+      omega (arith, key_size),
+      omega (arith, key_size, value_size),
+      rw same (grind (arith, nat_tests)),
+    )
+
+pub block_pair : (k v : List ℕ) (d : Data) → IsRead d v
     → Block (key_text k ++ (codes " = " ++ (v ++ 10 ∷ []))) ((([], k), key_value d) ∷ [])
-block_pair k v d text deep valid = record {
-  leads = λ rest. leads_below ([], k) (key_value d) _ rest
-      (line_turn false false _ _ _ rest (v, refl, text) (refl, deep, valid));
+block_pair k v d is = record {
+  leads = λ rest. leads_below ([], k) (key_value d) _ rest (pair_turn k v rest d is);
 }
 
 pub block_header : (key : Key) → length key.0 < 80

@@ -1,15 +1,16 @@
 -- The settings of a table as they are written, and as they are read from that: the parts of a
 -- value, what makers of texts answer, and the lines of each setting.
-use Rattle.std.proofs.Common.{◌≡◌, ℕ, ◌/◌, ◌%◌, ◌<◌, ◌≤◌, ◌^◌, pos, Bool, true, false, not, ◌&&◌, ◌||◌, List, [], ◌∷◌, ◌++◌, length, codes, map, Option, Some, None, option_map, Ok, refl, sym, ap, arith, append_assoc, subst, rules, Result}
+use Rattle.std.proofs.Common.{◌≡◌, ℕ, ◌/◌, ◌%◌, ◌<◌, ◌≤◌, ◌^◌, pos, Bool, true, false, not, ◌&&◌, ◌||◌, List, [], ◌∷◌, ◌++◌, length, codes, map, Option, Some, None, option_map, Ok, inl, inr, refl, sym, ap, arith, append_assoc, subst, rules, Result}
 use Rattle.std.specs.Prelude.{nat_lt, ⊤, nat_le, Contains}
 use Rattle.std.specs.List.{list_all, filter_map, list_any}
 use Rattle.std.proofs.Math.Nat.{mod-lt}
+use Rattle.std.proofs.lemmas.Bool.{cases_Bool}
 use Rattle.std.proofs.lemmas.Bool.Decides.{nat_tests, Decides-and, Decides-by_and, Decides-by_or, Decides-eqb, Decides-like, Decides-not}
 use Rattle.std.proofs.lemmas.Nat.{div-add-mod'}
 use Rattle.std.proofs.lemmas.List.Folds.{list_all-append}
 use Rattle.toml_parser.specs.Lexical.{is_bare, is_non_eol}
-use Rattle.toml_writer.specs.Text.{key_text, string_text, encoding_of, escaped, needs_escape, quotes_after}
-use Rattle.toml.specs.Data.{Data, string, integer, boolean, table, no_members, member, depth, has_valid_dates}
+use Rattle.toml_writer.specs.Text.{has, key_text, string_text, encoding_of, escaped, needs_escape, quotes_after}
+use Rattle.toml.specs.Data.{Data, string, integer, boolean, table, no_members, member}
 use Rattle.toml.specs.Tables.{Expression, Nodes, value, insert, key_value}
 use Rattle.toml.specs.Text.{IsValueText}
 use Rattle.iox2_texts.specs.Text.{IsTextUpTo, IsText, IsTextByte}
@@ -28,7 +29,7 @@ use Rattle.iox2_config_file.specs.Settings.{is_line, are_lines, Setting}
 use Rattle.iox2_config_file.specs.Values.{SettingValue, number, flag, text, backpressure, allocation, duration, absent, settings, value_in, text_in, is_path, is_file_name, member_count}
 use Rattle.iox2_config_file.specs.Write.{value_text, value_fits, value_is_set, assignment, entry_text, entries_text}
 use Rattle.iox2_config_file.proofs.Rowed.{no_entries}
-use Rattle.iox2_config_file.proofs.Reading.{Block, block_append, block_none, block_newline, block_comment, block_pair}
+use Rattle.iox2_config_file.proofs.Reading.{Block, IsRead, block_append, block_none, block_newline, block_comment, block_pair, line_read, value_read}
 use Rattle.toml.specs.View.{members_view}
 use Rattle.toml.proofs.Views.{Entry}
 use Rattle.std.specs.Bool.{Decides}
@@ -136,9 +137,7 @@ has_kind k v = false
 -- what is written for a value is read as the data, and that as the value
 pub record IsKept (k : Kind) (v : SettingValue) (d : Data) : Type 0 where
   pub set : value_is_set v ≡ true
-  pub writes : IsValueText false d (value_text v)
-  pub shallow : depth d ≤ 80
-  pub valid : has_valid_dates d ≡ true
+  pub writes : IsRead d (value_text v)
   pub reads : value_in k d ≡ Ok v
 
 abbrev pub Keeps : Kind → SettingValue → Option Data → Type 0
@@ -161,12 +160,21 @@ parts_written : (n : ℕ) → n / 1_000_000_000 < 2 ^ 63 → n % 1_000_000_000 <
 unfolding key_text
 parts_written n fits less = grind arith
 
+text_written : (s : List ℕ) → IsRead (string s) (value_text (text s))
+text_written s =
+    elim (cases_Bool (has 10 s)) [
+      | inl some ↦ rw some (line_read s some)
+      | inr none ↦ rw none (value_read (string s) (string_text s) refl (omega arith) refl)
+    ]
+
 -- what is written is read as the value
 pub keeps : (k : Kind) (v : SettingValue) → has_kind k v ≡ true → IsLegal k v
     → value_fits v ≡ true → Keeps k v (data_at v)
 unfolding string_text encoding_of escaped needs_escape quotes_after
+keeps k (text s) kinded legal fits =
+    grind (arith, nat_tests, legal_path, legal_name, text_written)
 keeps k v kinded legal fits =
-    grind (arith, nat_tests, legal_path, legal_name, div-add-mod', mod-lt, parts_written)
+    grind (arith, nat_tests, value_read, div-add-mod', mod-lt, parts_written)
 
 -- a key that is written as it is
 abbrev pub is_bare_key : List ℕ → Bool
@@ -206,7 +214,7 @@ assignment_block : (key : List ℕ) (k : Kind) (v : SettingValue) (o : Option Da
     → is_bare_key key ≡ true → Keeps k v o → Block (assignment key v) (lines_of ((key, o) ∷ []))
 assignment_block key k v None bare kept = rw kept (unset_block key bare)
 assignment_block key k v (Some d) bare kept =
-    let block = block_pair key (value_text v) d kept.writes kept.shallow kept.valid in
+    let block = block_pair key (value_text v) d kept.writes in
     grind (arith, kept.set, bare_text)
 
 -- the comment of a setting, from its first space on

@@ -154,7 +154,7 @@ decimal_comment : (n : ℕ) → n < 2 ^ 63 → is_comment (decimal n) ≡ true
 decimal_comment n fits = word_comment (decimal n) (IsWord-pos n fits).all
 
 abbrev is_text_line : SettingValue → Bool
-is_text_line (text s) = is_comment (string_text s)
+is_text_line (text s) = is_comment (value_text (text s))
 is_text_line settings = false
 is_text_line _ = true
 

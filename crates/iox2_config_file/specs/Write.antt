@@ -19,7 +19,8 @@ use Rattle.iox2_config_file.specs.declared.write.TheConstants.{TITLE}
 use Rattle.iox2_config_file.specs.Read.{sections, rows_in, row_view}
 use Rattle.iox2_config_file.specs.Settings.{header_name, is_line, are_lines, Setting, settings_in}
 use Rattle.iox2_config_file.specs.Values.{SettingValue, number, flag, text, backpressure, allocation, duration, absent, settings}
-use Rattle.toml_writer.specs.Text.{string_text}
+use Rattle.toml_parser.specs.Lexical.{line_feed}
+use Rattle.toml_writer.specs.Text.{has, key_text, string_text}
 
 -- what a setting holds, as the table of settings says it
 abbrev pub value_view : Held → SettingValue
@@ -31,12 +32,16 @@ value_view (held.Allocation a) = allocation a
 value_view (held.Duration d) = duration (as_nanos d)
 value_view held.Absent = absent
 
--- a value as TOML writes it
+-- a text as TOML writes it, in one line: one that has a newline as it is written where it is a key
+abbrev pub text_line : List ℕ → List ℕ
+text_line s = if has line_feed s then key_text s else string_text s
+
+-- a value as TOML writes it, in one line
 abbrev pub value_text : SettingValue → List ℕ
 value_text (number n) = decimal n
 value_text (flag true) = codes "true"
 value_text (flag false) = codes "false"
-value_text (text s) = string_text s
+value_text (text s) = text_line s
 value_text (backpressure RetryUntilDelivered) = codes "\"RetryUntilDelivered\""
 value_text (backpressure DiscardData) = codes "\"DiscardData\""
 value_text (allocation BestFit) = codes "\"BestFit\""

@@ -5,6 +5,8 @@ ghost use Rattle.std.specs.List.{list_any};
 ghost use Rattle.std.specs.Result.{result_map_both, result_err};
 ghost use Rattle.iox2_texts.specs.Path.{is_slash};
 ghost use Rattle.std.specs.Duration.{as_nanos};
+ghost use Rattle.toml_parser.specs.Lexical.{line_feed};
+ghost use Rattle.toml_writer.specs.Text.{has};
 ghost use Rattle.toml.specs.Data.{get_member};
 ghost use Rattle.toml.specs.View.{view, table_view};
 ghost use Rattle.iox2_config_file.specs.Values.{type_in, value_in, value_or, duration_in, part_in};
@@ -26,9 +28,9 @@ use iox2_texts::paths::{FileName, Path};
 use std::fmt;
 use std::time::Duration;
 use toml::{Table, Value};
-use toml_writer::write_string;
+use toml_writer::{write_key, write_string};
 
-/// What a setting holds. `{}` writes it as TOML does.
+/// What a setting holds. `{}` writes it as TOML does, in one line.
 #[derive(Clone, Copy, Debug, PartialEq, Eq)]
 pub enum SettingValue<'a> {
     /// A number.
@@ -54,6 +56,7 @@ impl fmt::Display for SettingValue<'_> {
         match self {
             SettingValue::Number(n) => write!(f, "{n}"),
             SettingValue::Flag(on) => write!(f, "{on}"),
+            SettingValue::Text(text) if has_newline(text) => write_key(f, text),
             SettingValue::Text(text) => write_string(f, text),
             SettingValue::Backpressure(BackpressureStrategy::RetryUntilDelivered) => f.write_str(
                 "\"RetryUntilDelivered\"",
@@ -75,6 +78,13 @@ impl fmt::Display for SettingValue<'_> {
             SettingValue::Absent => f.write_str("not set"),
         }
     }
+}
+
+/// Whether a text has a newline. As a value TOML would write it in several lines, as a key in one.
+fn has_newline(text: &str) -> bool
+    ensures { result ≡ has line_feed text.now }
+{
+    text.as_bytes().iter().any(|b| *b == b'\n')
 }
 
 impl SettingValue<'_> {

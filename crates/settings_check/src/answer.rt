@@ -3,7 +3,7 @@ ghost use Rattle.std.specs.Prelude.{◌≡◌, ◌<◌, ◌⊎◌, IfErr, IfOk, 
 ghost use Rattle.std.specs.Prelude.{option_map, string_bytes, true};
 ghost use Rattle.std.specs.Bool.{MatchBool};
 ghost use Rattle.std.specs.Io.KnownBytes.{IsAtEnd};
-ghost use Rattle.line_streams.specs.Filters.{Ends, RefusesMemory, status_number};
+ghost use Rattle.line_streams.specs.Filters.{Ends, GivesUp, status_number};
 ghost use Rattle.line_streams.specs.Streams.{IsFlushed, ReadFails, StreamFails};
 ghost use Rattle.settings_check.specs.Answer.{status_of, IsChecked, IsTextOf, IsShown};
 ghost use Rattle.settings_check.specs.Answer.{AreToml, AnswersFiles, omitted_in, with_compared};
@@ -20,11 +20,12 @@ use crate::lines::{
 use crate::schema::schema;
 use config_report::{default_file, settings_text};
 use iox2_config_file::SECTIONS;
-use line_streams::{Outcome, Sink, Source, Status, read_all, write_outcome, write_whole};
+use line_streams::{
+    Outcome, Sink, Source, Status, read_all, report_failure, write_outcome, write_whole,
+};
 use std::alloc::{AllocError, Global};
 use std::env::Args;
 use std::io;
-use std::io::Error;
 
 /// What is written, and the status.
 #[derive(Drop)]
@@ -340,7 +341,8 @@ fn run<R: Source, W: Sink, E: Sink, F: Files>(
 /// - 1: the same, and a file has an error, or, with `--strict`, a warning.
 /// - 2: the arguments are bad, or a file cannot be read: `errors` has a line for that.
 /// - 3: memory was refused: nothing was written to `output`, and `no memory` to `errors`. Or a
-///   read, a write or a flush failed, for any cause, and nothing was done to that stream after it.
+///   read, a write or a flush failed, for any cause, and `a stream failed` was written to `errors`,
+///   if that took it. Nothing else was done to that stream after it.
 pub fn check_streams<R: Source, W: Sink, E: Sink, F: Files>(
     alloc: Global,
     coloured: bool,
@@ -359,14 +361,13 @@ pub fn check_streams<R: Source, W: Sink, E: Sink, F: Files>(
     // Both writers were flushed last.
     ensures flushed { result < 3
         → IsFlushed W.Flushes output.new × IsFlushed E.Flushes errors.new }
-    // Memory was refused, or a read, a write or a flush failed, and that stream was left as it was.
-    ensures failed { result ≡ 3
-        → RefusesMemory (W.contents output.old) (W.contents output.new)
-        (E.contents errors.old) (E.contents errors.new)
-        ⊎ ((e : Error) × StreamFails R.FailsBy W.Writes W.FailsToFlush E.Writes E.FailsToFlush
-        input.new output.old output.new errors.old errors.new e) }
+    // Memory was refused, or a read, a write or a flush failed, and that was reported. Where the
+    // read failed, nothing was written before that.
+    ensures failed { result ≡ 3 → GivesUp R.FailsBy W.contents W.Writes W.FailsToFlush E.contents
+        E.Writes E.FailsToFlush input.new output.old output.new errors.old errors.new }
     // Nothing was read from `input` but where it is one of the files.
     ensures unread { (input.new ≡ input.old) ⊎ RequestsInput arguments }
 {
-    run(alloc, coloured, arguments, files, input, output, errors).unwrap_or(3)
+    let end = run(alloc, coloured, arguments, files, input, output, errors);
+    report_failure(errors, end)
 }

@@ -5,7 +5,7 @@ use std::alloc::{AllocError, Global};
 use std::test::Fail;
 
 /// Files, and what is said of each, without its name.
-const CONTRADICTIONS: [(&[u8], &str); 11] = [
+const CONTRADICTIONS: [(&[u8], &str); 14] = [
     (
         b"defaults.event.notifier-created-event = 256\n",
         ":1:1: warning: defaults.event.notifier-created-event: is 256, and \
@@ -27,9 +27,21 @@ const CONTRADICTIONS: [(&[u8], &str); 11] = [
          another one in each working directory",
     ),
     (
-        b"[global]\nroot-path = \"C:\\temp\\new\"\n",
-        ":2:1: warning: global.root-path: is \"\"\"\\u{a}C:\\temp\\u{a}ew\"\"\": a path that does not \
-         begin with / is another one in each working directory",
+        b"[global]\nroot-path = \"/\\temp\\new\"\n",
+        ":2:1: warning: global.root-path: is \"/\\temp\\new\": it has a control character",
+    ),
+    (
+        b"[global]\nprefix = \"a\\r\"\n",
+        ":2:1: warning: global.prefix: is \"a\\r\": it has a control character",
+    ),
+    (
+        b"global.service.connection-suffix = \"\\u001f\"\n",
+        ":1:1: warning: global.service.connection-suffix: is \"\\u001F\": it has a control \
+         character",
+    ),
+    (
+        b"[global.node]\n'directory' = \"\\u007f\"\n",
+        ":2:1: warning: global.node.directory: is \"\\u007F\": it has a control character",
     ),
     (
         b"global.service.connection-suffix = '.data'\n",
@@ -67,7 +79,8 @@ const CONTRADICTIONS: [(&[u8], &str); 11] = [
 ];
 
 /// Files of which nothing is said: each is nearly one that contradicts itself.
-const NEARLY: [&[u8]; 8] = [
+const NEARLY: [&[u8]; 9] = [
+    b"global = { root-path = '/ ~\\new', prefix = ' ~' }\n",
     b"defaults.event.notifier-created-event = 255\n",
     b"[defaults.event]\nnotifier-dead-event = 5\nevent-id-max-value = 5\n",
     b"defaults.event.event-id-max-value = 0\n",
@@ -178,8 +191,8 @@ fn long_paths_are_reported(rt: HostRuntime) -> Result<(), Fail> {
         );
         let (status, output) = said_of_directory(rt.alloc(), table, 54)?;
         let end =
-            b"r\": joined they have more than 255 bytes, so there is no such directory\n0 errors, 1 \
-            warning\n";
+            b"r\": joined they have more than 255 bytes, and the middleware panics as it joins \
+            them\n0 errors, 1 warning\n";
         let ends = output.starts_with(begin) && output.ends_with(end.as_slice());
         assert_eq!(rt; (status, ends), (1, true));
     }

@@ -7,7 +7,7 @@ use std::process::Abort;
 use std::test::Fail;
 
 /// A file, and what is reported of it.
-const REPORTED: [(&[u8], &str); 45] = [
+const REPORTED: [(&[u8], &str); 53] = [
     (
         b"# two faults\n[global]\nprefix = 1\n[defaults.event]\n\t\"max-nodes\" = -1\n",
         "3:1: error: global.prefix: is an integer, and a string with the name of a file is wanted\n\
@@ -24,7 +24,8 @@ const REPORTED: [(&[u8], &str); 45] = [
     ),
     (
         b"global.root-path = \"\"\"/\n[defaults]\nsize = 1\"\"\"\nsize = 2",
-        "4:1: warning: size: this table has no such key\n",
+        "1:1: warning: global.root-path: is \"/\\n[defaults]\\nsize = 1\": it has a control \
+         character\n4:1: warning: size: this table has no such key\n",
     ),
     (
         b"a = [\n  '''\nsize = 1''', # [\n  { size = [ 1,\n ] }\n]\nsize = 2\n",
@@ -161,11 +162,15 @@ const REPORTED: [(&[u8], &str); 45] = [
     ),
     (
         b"\"global\".prefix = \"a\"\n\"global\".prefix = \"a\"\n",
-        "2:1: error: duplicate key `global.prefix`\n",
+        "2:1: error: the key `global.prefix`, or a table that it leads through, stands already\n",
     ),
     (
         b"[\"a\".b]\n[\"a\".b]\n",
-        "2:1: error: duplicate key `a.b`\n",
+        "2:1: error: the key `a.b`, or a table that it leads through, stands already\n",
+    ),
+    (
+        b"[a.b]\nc = 1\n[a]\nb.d = 2\n",
+        "4:1: error: the key `b.d`, or a table that it leads through, stands already\n",
     ),
     (
         b"\"a\\\"b\" = 1\n\"a\\\"b\" = 1\n",
@@ -173,11 +178,37 @@ const REPORTED: [(&[u8], &str); 45] = [
     ),
     (
         b"[a.\"b]c\"]\n[a.\"b]c\"]\n",
-        "2:1: error: duplicate key `a.\"b]c\"`\n",
+        "2:1: error: the key `a.\"b]c\"`, or a table that it leads through, stands already\n",
     ),
     (
         b"a = [ { b.c = 1, b . 'c' = 2 } ]\n",
-        "1:18: error: duplicate key `b.c`\n",
+        "1:18: error: the key `b.c`, or a table that it leads through, stands already\n",
+    ),
+    (
+        b"[gl\xD0\xBEbal]\n",
+        "1:4: error: U+043E in a key without quotes, expected ASCII letters, digits, `-`, `_`\n",
+    ),
+    (
+        b"x = { gr\xC3\xB6\xC3\x9Fe = 1 }\n",
+        "1:9: error: U+00F6 in a key without quotes, expected ASCII letters, digits, `-`, `_`\n",
+    ),
+    (
+        b"\xF0\x9F\x98\x80 = 1\n",
+        "1:1: error: U+1F600 in a key without quotes, expected ASCII letters, digits, `-`, `_`\n",
+    ),
+    (
+        b"a\xC2\xA0= 1\n",
+        "1:2: error: U+00A0 in a key without quotes, expected ASCII letters, digits, `-`, `_`\n",
+    ),
+    (
+        b"a = 1\rb = 2\r",
+        "1:6: error: a carriage return without a newline after it\n",
+    ),
+    (b"a = \"x\r\ny\"\n", "1:7: error: invalid string\n"),
+    (
+        b"a = \"C:\\Users\"\n",
+        "1:9: error: invalid escape sequence, a backslash is written `\\\\`, or the text in single \
+         quotes\n",
     ),
     (b"a = 1\n[[ a ]]\n", "2:1: error: duplicate key `a`\n"),
     (

@@ -118,8 +118,11 @@ const RUNS: [Run<'_>; 14] = [
         &["--compare", "--format", "json", "lines", "inline"],
         1,
         "{\"column\":1,\"file\":\"lines\",\"key\":\"global.prefix\",\"line\":1,\
-         \"message\":\"is \\\"\\\"\\\"\\\\u{a}a\\\\u{a}b\\\"\\\"\\\" here and '\\\"' at \
-         inline:1:1, and must be the same in all processes of one system\",\
+         \"message\":\"is \\\"a\\\\nb\\\": it has a control character\",\
+         \"severity\":\"warning\"}\n\
+         {\"column\":1,\"file\":\"lines\",\"key\":\"global.prefix\",\"line\":1,\
+         \"message\":\"is \\\"a\\\\nb\\\" here and '\\\"' at inline:1:1, and must be the same in \
+         all processes of one system\",\
          \"severity\":\"error\"}\n",
         "",
     ),

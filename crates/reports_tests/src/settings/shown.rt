@@ -33,7 +33,7 @@ fn control_characters_are_shown_escaped(rt: HostRuntime) -> Result<(), Fail> {
     assert_eq!(rt; status, 0);
     for part in [
         "\n! global.root-path = \"/\\u001B[31m\\u0007\", by default \"/tmp/iceoryx2/\"\n",
-        "\n! global.prefix = \"\"\"\\u{a}a\\tb\\u{a}c\"\"\", by default \"iox2_\"\n",
+        "\n! global.prefix = \"a\\tb\\nc\", by default \"iox2_\"\n",
         "\n  root                   /\\u{1b}[31m\\u{7}\n",
         "\n  static configuration   a\\u{9}b\\u{a}c*.service\n",
     ] {

@@ -91,7 +91,7 @@ pub(crate) const REFUSED: [(&str, &str); 10] = [
     ),
     (
         "config\n\u{feff}[defaults.event]\nmax-nodes = 5\nend\nevent A\n",
-        "2:1: error: invalid key, expected letters, numbers, `-`, `_` or a quoted key\n",
+        "2:1: error: U+FEFF in a key without quotes, expected ASCII letters, digits, `-`, `_`\n",
     ),
     (
         "config\nend\nconfig\nend\nevent A\n",

@@ -1,0 +1,13 @@
+use Rattle.config_report.proofs.Prelude.{refl}
+use Rattle.config_report.proofs.contradictions.node_controls.Goals as goal
+
+pub returns : goal.returns
+returns c =
+    rw (
+      c.path_control.ensures,
+      c.name_control.ensures,
+      c.name_control-2.ensures,
+      c.name_control-3.ensures,
+      c.name_control-4.ensures,
+      c.name_control-5.ensures,
+    ) refl
