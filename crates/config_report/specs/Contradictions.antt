@@ -187,7 +187,7 @@ event_contradictions e =
     ∷ []
     )
 
--- the limits without which a pattern cannot be used, by their tables and keys
+-- the limits that must not be 0, by their tables and keys
 abbrev pub limits_of : Defaults → List (Section × List ℕ × ℕ)
 limits_of d =
     (section.PublishSubscribe, codes "max-subscribers", d.publish_subscribe.max_subscribers)
@@ -259,7 +259,7 @@ effect_text LongPath =
     codes "joined they have more than 255 bytes, and the middleware panics as it joins them"
 effect_text SmallBuffer =
     codes "without safe overflow a buffer must hold the whole history"
-effect_text UselessLimit = codes "with this limit no service of the pattern can be used"
+effect_text UselessLimit = codes "a limit of 0 allows none"
 effect_text ControlCharacter = codes "it has a control character"
 
 -- what is said of one setting beside the other, if there is one

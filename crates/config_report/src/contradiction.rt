@@ -49,7 +49,7 @@ impl fmt::Display for Effect {
                 "joined they have more than 255 bytes, and the middleware panics as it joins them"
             }
             Effect::SmallBuffer => { "without safe overflow a buffer must hold the whole history" }
-            Effect::UselessLimit => "with this limit no service of the pattern can be used",
+            Effect::UselessLimit => "a limit of 0 allows none",
             Effect::ControlCharacter => "it has a control character",
         })
     }

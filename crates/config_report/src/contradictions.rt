@@ -408,7 +408,7 @@ macro_rules! useless_limits {
     };
 }
 
-/// The limits without which a pattern cannot be used.
+/// The limits that must not be 0.
 fn limits<'a>(settings: &Defaults) -> [Candidate<'a>; 16]
     ensures { flat_map candidate_view result ≡ flat_map useless_limit (limits_of settings.now) }
 {

@@ -63,18 +63,16 @@ const CONTRADICTIONS: [(&[u8], &str); 14] = [
     ),
     (
         b"[defaults.blackboard]\nmax-nodes = 0\n",
-        ":2:1: warning: defaults.blackboard.max-nodes: is 0: with this limit no service of the \
-         pattern can be used",
+        ":2:1: warning: defaults.blackboard.max-nodes: is 0: a limit of 0 allows none",
     ),
     (
         b"[defaults.publish-subscribe]\r\npublisher-max-loaned-samples = 0\r\n",
-        ":2:1: warning: defaults.publish-subscribe.publisher-max-loaned-samples: is 0: with this \
-         limit no service of the pattern can be used",
+        ":2:1: warning: defaults.publish-subscribe.publisher-max-loaned-samples: is 0: a limit of \
+         0 allows none",
     ),
     (
         b"[defaults]\nrequest-response = { max-clients = 0 }\n",
-        ":2:1: warning: defaults.request-response.max-clients: is 0: with this limit no service of \
-         the pattern can be used",
+        ":2:1: warning: defaults.request-response.max-clients: is 0: a limit of 0 allows none",
     ),
 ];
 
@@ -214,13 +212,12 @@ fn said_of_two(alloc: Global, words: &[&str]) -> Result<(u8, Vec<u8>), AllocErro
 fn contradictions_are_in_all_forms(rt: HostRuntime) -> Result<(), Fail> {
     let (status, output) = said_of_two(rt.alloc(), &["--compare", "a", "b"])?;
     let expected =
-        b"a:1:1: warning: defaults.event.max-nodes: is 0: with this limit no service of the \
-        pattern can be used\nb:2:1: warning: defaults.event.max-nodes: is 0: with this limit no \
-        service of the pattern can be used\n0 errors, 2 warnings\n";
+        b"a:1:1: warning: defaults.event.max-nodes: is 0: a limit of 0 allows none\nb:2:1: \
+        warning: defaults.event.max-nodes: is 0: a limit of 0 allows none\n0 errors, 2 warnings\n";
     assert_eq!(rt; (status, output.as_slice()), (0, expected.as_slice()));
     let (_, output) = said_of_two(rt.alloc(), &["--format", "json", "a"])?;
     let expected = b"{\"column\":1,\"file\":\"a\",\"key\":\"defaults.event.max-nodes\",\"line\":1,\
-        \"message\":\"is 0: with this limit no service of the pattern can be used\",\
+        \"message\":\"is 0: a limit of 0 allows none\",\
         \"severity\":\"warning\"}\n";
     assert_eq!(rt; output.as_slice(), expected.as_slice());
     Ok(())
