@@ -3,6 +3,9 @@ use Rattle.std.specs.Prelude.{None}
 use Rattle.iox2_static.proofs.Requirements.{met_where_none}
 use Rattle.service_examples.proofs.builder.room_for.Goals as goal
 
+pub returns-then-not-is_as_described : goal.returns-then-not-is_as_described
+returns-then-not-is_as_described c = search rules
+
 pub returns-then-not-may_open : goal.returns-then-not-may_open
 returns-then-not-may_open c =
     let attributes = rw c.attributes.ensures at c.in_default.ensures in
