@@ -1,10 +1,8 @@
 -- Windows that grow by events, fronts that go on event by event, also while replies are still to
 -- come, and verdicts.
-use Rattle.histories.proofs.Words.{[], ◌≡◌, ◌↔◌, ℕ, ◌+◌, ◌<◌, List, ◌∷◌, ◌++◌, length, take, refl, sym, ◌∙◌, ap, arith, inl, inr, append_assoc, append-nil, true, Event, Begin, End, Crash, Advance, Front, AdvancesIn, BeginsAnew, IsAdvance, IsMadeAlone, IsSameFront, begins, IsExplained, IsHistory, IsOpen, StandsAt, IsFrontOf, IsSound, Stop, Window, AgreesOn, GoesTo, IsWellFormed, BeginsWindow, IsStop, IsStopAt, ◌≤◌, get_or, take_all, length-take-le, take-take, take-append_seam, get_or_from_slice_get, slice_get-get_or, Cut, IsMadeNext, CutsAt, Bool, false, drop, take-append-drop, take-append-add, HasSlot, GoesOnTo, IsFrontAfter, Precedes, IsBusyFrom, IsQuiet, cases_lt}
-use Rattle.histories.specs.Frontier.{HasManyOrders}
-use Rattle.histories.specs.Windows.{LeadsTooFar}
+use Rattle.histories.proofs.Words.{[], ◌≡◌, ◌↔◌, ℕ, ◌+◌, ◌<◌, List, ◌∷◌, ◌++◌, length, take, refl, sym, ◌∙◌, ap, arith, inl, inr, append_assoc, append-nil, true, Event, Begin, End, Crash, Advance, Front, AdvancesIn, BeginsAnew, IsAdvance, IsMadeAlone, IsSameFront, begins, IsExplained, IsHistory, IsOpen, StandsAt, IsFrontOf, IsSound, Stop, Window, AgreesOn, GoesTo, IsWellFormed, BeginsWindow, IsStop, IsStopAt, ◌≤◌, get_or, take_all, length-take-le, take-take, get_or_from_slice_get, slice_get-get_or, Cut, IsMadeNext, CutsAt, Bool, false, drop, take-append-drop, take-append-add, HasSlot, GoesOnTo, IsFrontAfter, Precedes, IsBusyFrom, IsQuiet, cases_lt, HasManyOrders, LeadsTooFar}
 use Rattle.histories.proofs.Frontiers.{front_same}
-use Rattle.histories.proofs.Events.{begins_none, sound_none, open_parts, open_whole, quiet_both, sound_back, begins-append, stands_within, stands_take, open_inside}
+use Rattle.histories.proofs.Events.{begins_none, sound_none, open_parts, open_whole, quiet_both, sound_back, begins-append, stands_within, open_inside}
 use Rattle.histories.proofs.Explaining.{explains_begin, explains_end}
 use Rattle.histories.proofs.Verdicts.{frontier_explained, frontier_refused, frontier_some, history_sound, numbered_none, formed_front, formed_history, formed_inside, formed_next, history_front, sound_formed, one_more}
 use Rattle.histories.specs.declared.front.Advance.TheVariants as advance
