@@ -66,9 +66,9 @@ const WHOLE: Row = Row {
         ">open</text>",
         "<g class=\"call\">\n<title>register 1.0.0.1: handle 0 0</title>\n",
         // The listener with ticket 0 came first: in line 5, before that of line 4.
-        "<circle class=\"point\" cx=\"203\" cy=\"129\" r=\"9\"/><text class=\"number\" x=\"203\" y=\"129\" dy=\"4\">1</text>",
-        "<circle class=\"point\" cx=\"439\" cy=\"257\" r=\"9\"/><text class=\"number\" x=\"439\" y=\"257\" dy=\"4\">2</text>",
-        "<circle class=\"point\" cx=\"458\" cy=\"193\" r=\"9\"/><text class=\"number\" x=\"458\" y=\"193\" dy=\"4\">3</text>",
+        "<circle class=\"point\" cx=\"203\" cy=\"129\" r=\"9\"/><text class=\"number\" x=\"203\" y=\"129\" dy=\"3\">1</text>",
+        "<circle class=\"point\" cx=\"439\" cy=\"257\" r=\"9\"/><text class=\"number\" x=\"439\" y=\"257\" dy=\"3\">2</text>",
+        "<circle class=\"point\" cx=\"458\" cy=\"193\" r=\"9\"/><text class=\"number\" x=\"458\" y=\"193\" dy=\"3\">3</text>",
     ],
 };
 
