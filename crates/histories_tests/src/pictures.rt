@@ -89,7 +89,8 @@ const BAD: Row = Row {
     log: NODE,
     status: 2,
     message: "line 2: a line that begins with register, deregister, nodes, add, release, list, \
-        count, dead, state, service or a caller is expected\n",
+        count, dead, state, service or a caller, whose name has 1 to 16 letters and digits, is \
+        expected\n",
     parts: &[],
 };
 
