@@ -157,7 +157,7 @@ fn as_many_calls_as_fit(rt: HostRuntime) -> Result<(), Fail> {
     let last = ["x=\"23626\" y=\"62\" dx=\"5\">401</text>"];
     is_drawn(&rt, log.as_str(), (0, ""), &last)?;
     let log = log_of(&rt, 201)?;
-    let report = "no picture: there are more than 200 calls\n";
+    let report = "conforms, 201 calls on 1 service\nno picture: there are more than 200 calls\n";
     is_drawn(&rt, log.as_str(), (2, report), &[])?;
     Ok(())
 }
