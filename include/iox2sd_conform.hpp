@@ -145,10 +145,10 @@ struct [[nodiscard]] LogVerdict {
     IOX2SD_LENDS(std::string_view, report, text);
 
     /// With `NoOrder`: the line of the reply. It is `line`, or one above it, which no order
-    /// explains with the reply in `line`. Else 0.
+    /// explains with what was seen down to `line`. Else 0.
     std::size_t reply_line() const noexcept {
         if (status != Status::NoOrder) return 0;
-        constexpr std::string_view above = " explains that in line ";
+        constexpr std::string_view above = " explains the reply in line ";
         const std::string_view first = line_below(0, {});
         const std::size_t at = first.rfind(above);
         return at == first.npos ? line : detail::number_of(first.substr(at + above.size()));

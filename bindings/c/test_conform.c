@@ -113,7 +113,7 @@ static const char two_in_one_slot_report[] =
     "ports:\n";
 
 static const char a_reply_below_report[] =
-    "line 6: with this reply no order of the calls explains that in line 4\n"
+    "line 6: down to here no order of the calls explains the reply in line 4\n"
     "seen: list 1000000000000000000000001\n"
     "call: B> nodes (line 3)\n"
     "window: from line 2\n"
@@ -181,10 +181,12 @@ static void buffers(const char *log, const char *report, uint32_t status, size_t
 /* The first line that is not what is expected. */
 static void bad_lines(void) {
 #define SERVICE "service event 7 2 2 0\n"
-#define FIRST "the line of a service is expected, as service event 7 2 2 0"
+#define FIRST                                                                                     \
+    "the line of a service is expected, as service event 7 2 2 0; a pattern is "                  \
+    "publish-subscribe, event, request-response or blackboard"
 #define REPLY                                                                                     \
-    "a reply is expected, as handle 0 3, list, count 2 or released; below a call alone with = "   \
-    "before it"
+    "a reply is expected, as handle 0 3, list 1000000000000000000000001, count 2 or released; "   \
+    "below a call alone with = before it"
     static const struct {
         const char *log;
         const char *expected;
@@ -193,12 +195,18 @@ static void bad_lines(void) {
     } rows[] = {
         {"", FIRST, IOX2SD_STATUS_NO_SERVICE_LINE, 1},
         {"\xff\n", FIRST, IOX2SD_STATUS_NO_SERVICE_LINE, 1},
-        {SERVICE "count\n", "count ROLE is expected, as count listener",
+        {SERVICE "count\n", "count ROLE is expected, as count listener, and no space behind it",
          IOX2SD_STATUS_NO_CALL_LINE, 2},
-        {SERVICE "A> list? nodes\n", "CALLER> list? ROLE is expected, as A> list? listener",
+        {SERVICE "A> list? nodes\n",
+         "CALLER> list? ROLE is expected, as A> list? listener, and no space behind it",
          IOX2SD_STATUS_NO_CALL_LINE, 2},
         {SERVICE "8: nodes\n",
          "a line on a service above, by its number, or a new service is expected",
+         IOX2SD_STATUS_NO_CALL_LINE, 2},
+        {SERVICE SERVICE, "another number is expected: a service above has this one",
+         IOX2SD_STATUS_NO_CALL_LINE, 2},
+        {SERVICE "= list\n",
+         "the command of a call is expected above its reply, as nodes above = list",
          IOX2SD_STATUS_NO_CALL_LINE, 2},
         {SERVICE "nodes\nlist\n", REPLY, IOX2SD_STATUS_NO_REPLY_LINE, 3},
         {SERVICE "nodes\n= list A\n", REPLY, IOX2SD_STATUS_NO_REPLY_LINE, 3},

@@ -78,7 +78,7 @@ class NoOrder(_Fails):
     any reply."""
     reply_line: int
     """The line of the reply that is refused: that line, or one above it, which no order explains
-    with the reply in that line."""
+    with what was seen down to that line."""
     words: str
     """Its words."""
     call: int
@@ -155,7 +155,7 @@ def _no_order(line: int, report: str) -> NoOrder:
     another one.
     """
     first, words, called, window, needed, *lines, _ = report.split("\n")
-    _, _, above = first.partition(" explains that in line ")
+    _, _, above = first.partition(" explains the reply in line ")
     reply_line = int(above) if above else line
     command, _, number = called.removeprefix("call: ").removesuffix(")").rpartition(" (line ")
     told = map(_configuration, lines[::4], lines[1::4], lines[2::4], lines[3::4])

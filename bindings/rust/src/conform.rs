@@ -86,8 +86,8 @@ pub struct Refusal {
     /// The first line down to which no order explains what was seen, from 1 on. It has a reply.
     /// Calls that are answered below it may have any reply.
     pub line: usize,
-    /// The line of the reply: that line, or one above it, which no order explains with the reply in
-    /// that line.
+    /// The line of the reply: that line, or one above it, which no order explains with what was seen
+    /// down to that line.
     pub reply_line: usize,
     /// Its words.
     pub words: String,
@@ -308,7 +308,7 @@ impl Refusal {
     fn of(line: usize, report: &str) -> Self {
         let mut lines = report.split_terminator('\n');
         let mut next = || lines.next().unwrap_or_default();
-        let above = next().split_once(" explains that in line ");
+        let above = next().split_once(" explains the reply in line ");
         let reply_line = above.map_or(line, |(_, above)| number(above));
         let words = after("seen: ", next()).to_string();
         let called = after("call: ", next()).strip_suffix(')');

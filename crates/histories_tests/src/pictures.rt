@@ -66,9 +66,9 @@ const WHOLE: Row = Row {
         ">open</text>",
         "<g class=\"call\">\n<title>register 1.0.0.1: handle 0 0</title>\n",
         // The listener with ticket 0 came first: in line 5, before that of line 4.
-        "<circle class=\"point\" cx=\"203\" cy=\"129\" r=\"9\"/><text class=\"number\" x=\"203\" y=\"129\" dy=\"4\">1</text>",
-        "<circle class=\"point\" cx=\"439\" cy=\"257\" r=\"9\"/><text class=\"number\" x=\"439\" y=\"257\" dy=\"4\">2</text>",
-        "<circle class=\"point\" cx=\"458\" cy=\"193\" r=\"9\"/><text class=\"number\" x=\"458\" y=\"193\" dy=\"4\">3</text>",
+        "<circle class=\"point\" cx=\"203\" cy=\"129\" r=\"9\"/><text class=\"number\" x=\"203\" y=\"129\" dy=\"3\">1</text>",
+        "<circle class=\"point\" cx=\"439\" cy=\"257\" r=\"9\"/><text class=\"number\" x=\"439\" y=\"257\" dy=\"3\">2</text>",
+        "<circle class=\"point\" cx=\"458\" cy=\"193\" r=\"9\"/><text class=\"number\" x=\"458\" y=\"193\" dy=\"3\">3</text>",
     ],
 };
 
@@ -89,7 +89,8 @@ const BAD: Row = Row {
     log: NODE,
     status: 2,
     message: "line 2: a line that begins with register, deregister, nodes, add, release, list, \
-        count, dead, state, service or a caller is expected\n",
+        count, dead, state, service or a caller, whose name has 1 to 16 letters and digits, is \
+        expected\n",
     parts: &[],
 };
 
@@ -156,7 +157,7 @@ fn as_many_calls_as_fit(rt: HostRuntime) -> Result<(), Fail> {
     let last = ["x=\"23626\" y=\"62\" dx=\"5\">401</text>"];
     is_drawn(&rt, log.as_str(), (0, ""), &last)?;
     let log = log_of(&rt, 201)?;
-    let report = "no picture: there are more than 200 calls\n";
+    let report = "conforms, 201 calls on 1 service\nno picture: there are more than 200 calls\n";
     is_drawn(&rt, log.as_str(), (2, report), &[])?;
     Ok(())
 }

@@ -151,7 +151,7 @@ module _ (bars : List Bar) (lines : List ℕ) where
     calls_taken =
         subst (λ (n : ℕ). AllZip (IsPointOf bars) (take n lines) ps) (sym s.size) s.calls
 
-    pub first_points : (before.number < 200 → (p : Point) → before.line ≤ p.line
+    pub first_points : (before.number < 400 → (p : Point) → before.line ≤ p.line
         → IsPointOf bars (get_or lines at 0) p → ⊥) → ArePointsOf bars lines ps
     first_points none = record {
       calls = calls_taken;

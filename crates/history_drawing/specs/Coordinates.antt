@@ -62,4 +62,4 @@ pub record IsDrawable (t : Timeline) : Type 0 where
   pub rows : length t.rows.items ≤ 200
   pub bar_rows : All (λ (b : Bar). b.row ≤ 200) t.bars.items
   pub point_rows : All (λ (p : Point). p.row ≤ 200) t.points.items
-  pub point_parts : All (λ (p : Point). p.part ≤ 200) t.points.items
+  pub point_parts : All (λ (p : Point). p.part ≤ 400) t.points.items

@@ -71,6 +71,13 @@ pub record IsUndrawn (message : List ℕ) (d : Drawing) : Type 0 where
   pub picture : string_bytes d.picture ≡ []
   pub reported : d.message.items ≡ message
 
+-- nothing is drawn, since there are too many calls: the first line of the report is reported, and
+-- that
+abbrev pub HasNoRoom : List ℕ → Drawing → Type 0
+HasNoRoom report d =
+    (notes : List (Bor (List ℕ))) × AreLines report notes
+    × IsUndrawn (with_newline (text_at notes 1) ++ MANY_CALLS.now) d
+
 -- a picture is drawn, and nothing is reported
 pub record IsDrawn (status : Status) (d : Drawing) : Type 0 where
   pub ended : d.status ≡ status
@@ -85,7 +92,7 @@ status_for (Some marked) = Faulty
 abbrev pub DrawsLines : List (Bor (List ℕ)) → Window → Option ℕ → List Order → List ℕ → Drawing
     → Type 0
 DrawsLines lines w marked orders report d =
-    (IsUndrawn MANY_CALLS.now d × HasMany lines w)
+    (HasNoRoom report d × HasMany lines w)
     ⊎ (IsDrawn (status_for marked) d × Shows lines w marked orders report (string_bytes d.picture))
 
 -- the picture of all lines of a log that conforms

@@ -138,7 +138,7 @@ unfoldable pub circle_text : ℕ → ℕ → ℕ → List ℕ
 circle_text x y number =
     codes "<circle class=\"point\" cx=\"" ++ (decimal x ++ (codes "\" cy=\"" ++ (decimal y
     ++ (codes "\" r=\"9\"/><text class=\"number\" x=\"" ++ (decimal x ++ (codes "\" y=\""
-    ++ (decimal y ++ (codes "\" dy=\"4\">" ++ (decimal number ++ codes "</text>\n")))))))))
+    ++ (decimal y ++ (codes "\" dy=\"3\">" ++ (decimal number ++ codes "</text>\n")))))))))
 
 -- the point at which a call took effect, right below its bar: its number in the order
 unfoldable pub point_text : List Bar → Point → List ℕ

@@ -111,7 +111,7 @@ pub record IsWithin (b : Bar) (p : Point) : Type 0 where
   pub row : p.row ≡ b.row
   pub begun : b.begin ≤ p.line
   pub reached : Reaches b.end p.line
-  pub few : p.part ≤ 200
+  pub few : p.part ≤ 400
 
 -- the point lies in the bar of the call that begins in this line
 abbrev pub IsPointOf : List Bar → ℕ → Point → Type 0
@@ -135,7 +135,7 @@ points_at line points = count_by (λ (q : Point). q.line == line) points
 -- first calls one each, with their numbers from 1 on, each in the bar of its call and right of
 -- those before it. Each has the first line that it can have, which is the last one in which its
 -- call or one before it begins; its part is how many points before it have this line. If a call has
--- none, then there are 200 before it, or in its bar is no point right of them.
+-- none, then there are 400 before it, or in its bar is no point right of them.
 pub record ArePointsOf (bars : List Bar) (lines : List ℕ) (points : List Point) : Type 0 where
   pub calls : AllZip (IsPointOf bars) (take (length points) lines) points
   pub numbers : (k : ℕ) (d : Point) → k < length points → (get_or points k d).number ≡ k + 1
@@ -144,7 +144,7 @@ pub record ArePointsOf (bars : List Bar) (lines : List ℕ) (points : List Point
       → (get_or points k d).line ≡ last_of (take (k + 1) lines)
   pub parts : (k : ℕ) (d : Point) → k < length points
       → (get_or points k d).part ≡ points_at (get_or points k d).line (take k points)
-  pub full : length points < length lines → length points < 200 → (p : Point)
+  pub full : length points < length lines → length points < 400 → (p : Point)
       → All (λ (q : Point). IsLeft q p) points
       → ¬ (IsPointOf bars (get_or lines (length points) 0) p)
 

@@ -3,8 +3,8 @@ ghost use Rattle.std.specs.Prelude.{◌≡◌, ◌+◌, ℕ, IfNone, IfOk, IfSom
 ghost use Rattle.std.specs.Prelude.{string_bytes};
 ghost use Rattle.history_drawing.specs.Calls.{BeginsIn, IsAnsweredIn, IsElsewhere, IsServiceOf};
 ghost use Rattle.history_drawing.specs.Drawings.{AreLines, Draws, DrawsAll, DrawsLines};
-ghost use Rattle.history_drawing.specs.Drawings.{DrawsWindow, IsDrawingOf, IsDrawn, IsPicture};
-ghost use Rattle.history_drawing.specs.Drawings.{IsUndrawn, IsWindow, status_for};
+ghost use Rattle.history_drawing.specs.Drawings.{DrawsWindow, HasNoRoom, IsDrawingOf, IsDrawn};
+ghost use Rattle.history_drawing.specs.Drawings.{IsPicture, IsUndrawn, IsWindow, status_for};
 ghost use Rattle.history_drawing.specs.Coordinates.{IsDrawable};
 
 use crate::calls::{LogCall, below_first, call_at, first_service, lines_of, text_at};
@@ -38,6 +38,17 @@ fn undrawn(alloc: Global, report: &[u8]) -> Result<Drawing, AllocError>
         picture: String::new(alloc),
         message: Vec::from_slice(alloc, report)?,
     })
+}
+
+/// No picture, since there are too many calls for one: the first line of the report, and that.
+fn without_room(alloc: Global, report: &[u8]) -> Result<Drawing, AllocError>
+    ensures { IfOk result (HasNoRoom report.now) }
+{
+    let notes = lines_of(alloc, report)?;
+    let mut message = Vec::from_slice(alloc, text_at(&notes, 1))?;
+    message.push(b'\n')?;
+    message.extend_from_slice(MANY_CALLS)?;
+    undrawn(alloc, &message)
 }
 
 /// The status of a picture, by the line of the reply that is refused.
@@ -149,7 +160,7 @@ fn draw_lines(
     ensures { IfOk result (DrawsLines lines.now window.now refused orders.now report.now) }
 {
     let Some(mut timeline) = timeline_of(alloc, lines, window, refused)? else {
-        return undrawn(alloc, MANY_CALLS);
+        return without_room(alloc, report);
     };
     timeline.points = points_of(alloc, &timeline.bars, orders)?;
     drawn(alloc, &timeline, report)

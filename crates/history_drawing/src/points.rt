@@ -10,7 +10,7 @@ use history_logs::logs::Order;
 use std::alloc::{AllocError, Global};
 
 /// How many points an order has at most.
-const MAX_POINTS: usize = 200;
+const MAX_POINTS: usize = 400;
 
 /// The call that begins in this line.
 fn bar_at<'b, 'a>(bars: &'b [Bar<'a>], line: usize) -> Option<&'b Bar<'a>>
@@ -35,7 +35,7 @@ fn reaches(end: &BarEnd<'_>, line: usize) -> bool
 /// The point of a call that takes effect after another one, or first, where the number of that one
 /// is 0: in the line of its begin, or in that of the other point, if that is a later one.
 fn point_after(bar: &Bar<'_>, before: &Point) -> Point
-    requires number { before.now.number < 200 }
+    requires number { before.now.number < 400 }
     requires part { before.now.part ≤ before.now.number }
     ensures follows { Follows bar.now.begin before.now result }
     ensures row { result.row ≡ bar.now.row }
@@ -63,7 +63,7 @@ fn next_point(bars: &[Bar<'_>], line: usize, before: &Point) -> Option<Point>
     ensures point { IfSome result (IsPointOf bars.now line) }
     ensures follows { IfSome result (Follows line before.now) }
     ensures part { IfSome result (λ p. p.part ≤ p.number) }
-    ensures none { IfNone result (before.now.number < 200 → (p : Point)
+    ensures none { IfNone result (before.now.number < 400 → (p : Point)
         → before.now.line ≤ p.line → ¬ (IsPointOf bars.now line p)) }
 {
     if before.number >= MAX_POINTS {

@@ -46,7 +46,7 @@ fn write_bars(out: &mut String, bars: &[Bar<'_>], refused: Option<usize>) -> Res
 fn write_points(out: &mut String, bars: &[Bar<'_>], points: &[Point]) -> Result<(), AllocError>
     requires few { length bars.now ≤ 200 }
     requires rows { All (λ (p : Point). p.row ≤ 200) points.now }
-    requires parts { All (λ (p : Point). p.part ≤ 200) points.now }
+    requires parts { All (λ (p : Point). p.part ≤ 400) points.now }
     ensures { OnOk result (string_bytes out.new
         ≡ string_bytes out.old ++ flat_map (point_text bars.now) points.now) }
 {

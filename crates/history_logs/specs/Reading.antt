@@ -188,13 +188,14 @@ NoneStarts log number what =
     × ((start : dynamic.Service) → ¬ (StartsAs s what start))
     × ((start : dynamic.Service) → ¬ (StartsAnewAs log at s what start))
 
--- The line may not come next, and this is expected in its stead: a call, where it is a service with
--- the number of another, or a line on none of the services; else what its caller is to do, the
--- words of a reply, or a state that the service can have.
+-- The line may not come next, and this is expected in its stead: another number, where it is a
+-- service with that of one above; a line on a service above, where it is on none; a call alone,
+-- where it is a reply; else what its caller is to do, the words of a reply, or a state that the
+-- service can have.
 abbrev pub IsRefused : Log → Line → Expected → Type 0
-IsRefused log (service l) e = (e ≡ expected.Call) × (¬ (IsNew l.number log.services))
+IsRefused log (service l) e = (e ≡ expected.NewNumber) × (¬ (IsNew l.number log.services))
 IsRefused log (call number c) e = (e ≡ expected.Call) × IsNameless number log.services
-IsRefused log (reply words) e = e ≡ expected.Call
+IsRefused log (reply words) e = e ≡ expected.CallAlone
 IsRefused log (begin number name c) e =
     ((e ≡ expected.Call) × IsNameless number log.services)
     ⊎ (HasNamed number log.services × RefusesBegin (log.callers name) e)

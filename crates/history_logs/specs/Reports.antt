@@ -48,10 +48,20 @@ next_text next =
     ++ (free_text 32 0 next.taken.items next.capacity ++ (codes " " ++ decimal next.ticket))
 
 -- the ids with which, and without which, the list would do that was seen
+unfoldable pub ids_text : (missing unseen : List ℕ) → List ℕ
+ids_text missing unseen =
+    (codes "the list with:" ++ flat_map id_word missing)
+    ++ (codes ", without:" ++ flat_map id_word unseen)
+
+-- the same; where there are none, a list would do
+abbrev pub lists_words : (missing unseen : List ℕ) → List ℕ
+lists_words [] [] = codes "a list"
+lists_words [] (id ∷ ids) = ids_text [] (id ∷ ids)
+lists_words (id ∷ ids) unseen = ids_text (id ∷ ids) unseen
+
+-- the words of what a weak listing may have had in its stead
 abbrev pub lists_text : PossibleList → List ℕ
-lists_text lists =
-    (codes "the list with:" ++ flat_map id_word lists.missing.items)
-    ++ (codes ", without:" ++ flat_map id_word lists.unseen.items)
+lists_text lists = lists_words lists.missing.items lists.unseen.items
 
 -- the replies that a run gives
 abbrev pub possible_text : PossibleReplies → List ℕ
@@ -93,12 +103,12 @@ window_text window needed =
     ((10 ∷ codes "window: from line ") ++ decimal window)
     ++ ((10 ∷ codes "needed: lines") ++ flat_map number_word needed)
 
--- which reply no order explains, of what is seen down to a line: that in it, or one above it
+-- which reply no order explains with all that is seen down to a line: that in it, or one above it
 abbrev pub which_text : ℕ → ℕ → List ℕ
 which_text line reply =
     if reply == line
     then codes ": no order of the calls explains this reply"
-    else codes ": with this reply no order of the calls explains that in line " ++ decimal reply
+    else codes ": down to here no order of the calls explains the reply in line " ++ decimal reply
 
 -- no order explains what is seen down to a line: the reply in it, or one above it
 unfoldable pub refused_text : ℕ → ℕ → List ℕ
@@ -118,46 +128,64 @@ refusal_text reported =
 -- what is expected where a text has this form, and is that of no line
 abbrev pub form_text : LogForm → List ℕ
 form_text form.Service =
-    codes ": service PATTERN NUMBER NODES FIRST SECOND is expected, as service event 7 2 2 0\n"
+    codes ": service PATTERN NUMBER NODES FIRST SECOND is expected, as service event 7 2 2 0; "
+    ++ codes "a pattern is publish-subscribe, event, request-response or blackboard\n"
 form_text form.State =
     codes ": state .. is expected, as state nodes 20, state nodes 20 locked, state listener 4, "
     ++ codes "state 0 17 register 1.0.0.1 or state 3 2 add listener 1.0.0.2 1.0.0.1\n"
-form_text form.Register = codes ": register NODE is expected, as register 1.0.0.1\n"
+form_text form.Register =
+    codes ": register NODE is expected, as register 1.0.0.1, and no space behind it\n"
 form_text form.Deregister =
-    codes ": deregister NUMBER or deregister SLOT TICKET is expected, as deregister 0 3\n"
-form_text form.Nodes = codes ": nodes is expected, and nothing behind it\n"
+    codes ": deregister NUMBER or deregister SLOT TICKET is expected, as deregister 0 3, "
+    ++ codes "and no space behind it\n"
+form_text form.Nodes = codes ": nodes is expected, and nothing behind it, not even a space\n"
 form_text form.Add =
-    codes ": add ROLE PORT NODE is expected, as add listener 1.0.0.2 1.0.0.1\n"
+    codes ": add ROLE PORT NODE is expected, as add listener 1.0.0.2 1.0.0.1, "
+    ++ codes "and no space behind it\n"
 form_text form.Release =
-    codes ": release NUMBER or release ROLE SLOT TICKET is expected, as release listener 1 0\n"
-form_text form.List = codes ": list ROLE is expected, as list listener\n"
-form_text form.Count = codes ": count ROLE is expected, as count listener\n"
+    codes ": release NUMBER or release ROLE SLOT TICKET is expected, as release listener 1 0, "
+    ++ codes "and no space behind it\n"
+form_text form.List = codes ": list ROLE is expected, as list listener, and no space behind it\n"
+form_text form.Count =
+    codes ": count ROLE is expected, as count listener, and no space behind it\n"
 form_text form.Dead =
-    codes ": dead NODE or dead NODE skip PORT .. is expected, as dead 1.0.0.1\n"
-form_text form.WeakNodes = codes ": CALLER> nodes? is expected, as A> nodes?\n"
-form_text form.WeakList = codes ": CALLER> list? ROLE is expected, as A> list? listener\n"
+    codes ": dead NODE or dead NODE skip PORT .. is expected, as dead 1.0.0.1, "
+    ++ codes "and no space behind it\n"
+form_text form.WeakNodes =
+    codes ": CALLER> nodes? is expected, as A> nodes?, and no space behind it\n"
+form_text form.WeakList =
+    codes ": CALLER> list? ROLE is expected, as A> list? listener, and no space behind it\n"
 form_text form.Begin =
     codes ": CALLER> COMMAND is expected, as A> nodes; a name has 1 to 16 letters and digits\n"
 form_text form.End =
-    codes ": CALLER< REPLY is expected, as A< list; a name has 1 to 16 letters and digits\n"
+    codes ": CALLER< REPLY is expected, as A< list, with no number before it; "
+    ++ codes "a name has 1 to 16 letters and digits\n"
 form_text form.Crash =
-    codes ": CALLER! is expected, as A!; a name has 1 to 16 letters and digits\n"
+    codes ": CALLER! is expected, as A!, with no number before it; "
+    ++ codes "a name has 1 to 16 letters and digits\n"
 form_text form.Numbered =
-    codes ": the number of a service is expected before the colon, as 7: nodes or 7: A> nodes\n"
+    codes ": NUMBER: COMMAND, NUMBER: CALLER> COMMAND or NUMBER: state .. is expected, "
+    ++ codes "as 7: A> nodes; NUMBER is that of a service above\n"
 form_text form.Unknown =
     codes ": a line that begins with register, deregister, nodes, add, release, list, count, "
-    ++ codes "dead, state, service or a caller is expected\n"
+    ++ codes "dead, state, service or a caller, whose name has 1 to 16 letters and digits, "
+    ++ codes "is expected\n"
 
 -- what a line should have been
 abbrev pub expected_text : Expected → List ℕ
 expected_text expected.Service =
-    codes ": the line of a service is expected, as service event 7 2 2 0" ++ 10 ∷ []
+    codes ": the line of a service is expected, as service event 7 2 2 0; "
+    ++ codes "a pattern is publish-subscribe, event, request-response or blackboard\n"
 expected_text expected.Call =
     codes ": a line on a service above, by its number, or a new service is expected\n"
+expected_text expected.NewNumber =
+    codes ": another number is expected: a service above has this one\n"
+expected_text expected.CallAlone =
+    codes ": the command of a call is expected above its reply, as nodes above = list\n"
 expected_text (expected.Form f) = form_text f
 expected_text expected.Reply =
-    codes ": a reply is expected, as handle 0 3, list, count 2 or released; "
-    ++ codes "below a call alone with = before it\n"
+    codes ": a reply is expected, as handle 0 3, list 1000000000000000000000001, count 2 or "
+    ++ codes "released; below a call alone with = before it\n"
 expected_text expected.IdleCaller =
     codes ": a caller without an open call is expected" ++ 10 ∷ []
 expected_text expected.OpenCall = codes ": a caller with an open call is expected" ++ 10 ∷ []

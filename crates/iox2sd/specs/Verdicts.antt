@@ -16,6 +16,8 @@ use Rattle.iox2sd.specs.declared.conform.ConformAnswer.{ConformAnswer}
 abbrev pub expected_status : Expected → Status
 expected_status expected.Service = status.NoServiceLine
 expected_status expected.Call = status.NoCallLine
+expected_status expected.NewNumber = status.NoCallLine
+expected_status expected.CallAlone = status.NoCallLine
 expected_status (expected.Form f) = status.NoCallLine
 expected_status expected.Reply = status.NoReplyLine
 expected_status expected.IdleCaller = status.CallerIsBusy

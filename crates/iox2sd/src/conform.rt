@@ -33,6 +33,8 @@ fn expected_status(expected: Expected) -> Status
     match expected {
         Expected::Service => Status::NoServiceLine,
         Expected::Call => Status::NoCallLine,
+        Expected::NewNumber => Status::NoCallLine,
+        Expected::CallAlone => Status::NoCallLine,
         Expected::Form(_) => Status::NoCallLine,
         Expected::Reply => Status::NoReplyLine,
         Expected::IdleCaller => Status::CallerIsBusy,

@@ -30,26 +30,25 @@ abbrev pub IsFormOf : List ℕ → LogForm → Type 0
 IsFormOf word f =
     IsWord f word ⊎ ((f ≡ form.Unknown) × ((other : LogForm) → ¬ (IsWord other word)))
 
--- the text begins with the number of a service, and this follows it; or it has none, and is this
-abbrev pub IsBehindNumber : List ℕ → List ℕ → Type 0
-IsBehindNumber text rest =
-    ((number : ℕ) × (number < 2 ^ 64) × (text ≡ number_text number ++ rest))
-    ⊎ (((number : ℕ) (other : List ℕ) → number < 2 ^ 64 → text ≢ number_text number ++ other)
-    × (rest ≡ text))
+-- the form of the begin of a call, where what begins has this form: no caller begins the line of a
+-- service, a state, or what no line begins with
+abbrev pub begun_form : LogForm → LogForm
+begun_form form.Service = form.Begin
+begun_form form.State = form.Begin
+begun_form form.Unknown = form.Begin
+begun_form f = f
+
+-- the form of the begin of a call that begins with this word
+abbrev pub IsFormBegun : List ℕ → LogForm → Type 0
+IsFormBegun word f = (g : LogForm) × IsFormOf word g × (f ≡ begun_form g)
 
 -- the mark of an event or of a number follows the letters and digits
 abbrev pub IsMarked : List ℕ → Type 0
 IsMarked back = (mark back ≡ 62) ⊎ ((mark back ≡ 60) ⊎ ((mark back ≡ 33) ⊎ (mark back ≡ 58)))
 
--- The words that tell the form of a text, which begins with these letters and digits and goes on
--- so: what a caller begins, or the text itself, where no mark follows them.
-abbrev pub AreWords : (text name back words : List ℕ) → Type 0
-AreWords text name back words =
-    (IsCaller name × (back ≡ codes "> " ++ words)) ⊎ ((¬ (IsMarked back)) × (words ≡ text))
-
 -- The form of a text, which begins with these letters and digits and goes on so: the end of a call,
--- the crash of a caller, a line with a number, the begin of a call where none stands behind a name,
--- or else that of its first word.
+-- the crash of a caller, a line with a number, what a caller begins, the begin of a call where none
+-- stands behind a name, or else that of its first word.
 abbrev pub HasFormBy : (text name back : List ℕ) → LogForm → Type 0
 HasFormBy text name back f =
     ((mark back ≡ 60) × (f ≡ form.End))
@@ -57,10 +56,25 @@ HasFormBy text name back f =
     ⊎ (((mark back ≡ 58) × (f ≡ form.Numbered))
     ⊎ (((mark back ≡ 62) × ((words : List ℕ) → IsCaller name → back ≢ codes "> " ++ words)
     × (f ≡ form.Begin))
-    ⊎ ((words : List ℕ) × AreWords text name back words × IsFormOf (first_word words) f))))
+    ⊎ (((words : List ℕ) × IsCaller name × (back ≡ codes "> " ++ words)
+    × IsFormBegun (first_word words) f)
+    ⊎ ((¬ (IsMarked back)) × IsFormOf (first_word text) f)))))
 
--- the form of a text, behind the number of a service where it has one
+-- the form of a text that stands alone, with no number of a service before it
+abbrev pub HasFormAlone : List ℕ → LogForm → Type 0
+HasFormAlone text f =
+    (name : List ℕ) × (back : List ℕ) × Comes text name back × HasFormBy text name back f
+
+-- the form behind the number of a service, where a text has this one alone: the line of a service
+-- has no number before it
+abbrev pub numbered_form : LogForm → LogForm
+numbered_form form.Service = form.Numbered
+numbered_form f = f
+
+-- the form of a text that begins with the number of a service, or with none
 abbrev pub HasForm : List ℕ → LogForm → Type 0
 HasForm text f =
-    (rest : List ℕ) × (name : List ℕ) × (back : List ℕ) × IsBehindNumber text rest
-    × Comes rest name back × HasFormBy rest name back f
+    ((number : ℕ) × (rest : List ℕ) × (g : LogForm) × (number < 2 ^ 64)
+    × (text ≡ number_text number ++ rest) × HasFormAlone rest g × (f ≡ numbered_form g))
+    ⊎ (((number : ℕ) (rest : List ℕ) → number < 2 ^ 64 → text ≢ number_text number ++ rest)
+    × HasFormAlone text f)

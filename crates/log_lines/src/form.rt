@@ -1,7 +1,7 @@
 //! The forms of lines, for a text that is the text of none.
 ghost use Rattle.std.specs.Prelude.{◌≡◌, IfNone, IfSome, IsTrue};
-ghost use Rattle.log_lines.specs.Forms.{HasForm, HasFormBy, IsBehindNumber, IsFormOf, IsWord};
-ghost use Rattle.log_lines.specs.Forms.{first_word};
+ghost use Rattle.log_lines.specs.Forms.{HasForm, HasFormAlone, HasFormBy, IsFormBegun, IsFormOf};
+ghost use Rattle.log_lines.specs.Forms.{IsWord, first_word, numbered_form};
 ghost use Rattle.log_lines.specs.Lines.{are_letters};
 ghost use Rattle.log_lines.specs.declared.form.LogForm.{LogForm as Form};
 
@@ -35,15 +35,15 @@ pub enum LogForm {
     WeakNodes,
     /// A weak listing of ports, `list?`.
     WeakList,
-    /// The begin of a call: `>` follows letters and digits that are no name, or that no space
-    /// follows.
+    /// The begin of a call: `>` follows letters and digits that are no name, or what follows `>` is
+    /// not a space and the first word of what a caller may begin.
     Begin,
     /// The end of a call: `<` follows the letters and digits.
     End,
     /// That a caller died: `!` follows the letters and digits.
     Crash,
     /// A line on the service with a number: `:` follows letters and digits that are none, or those
-    /// behind a number.
+    /// behind a number, or the line of a service stands behind a number.
     Numbered,
     /// None: no line begins with this word.
     Unknown,
@@ -113,6 +113,17 @@ fn form_of_words(text: &[u8]) -> LogForm
     }
 }
 
+/// The form of the begin of a call whose text begins so: no caller begins the line of a service, a
+/// state, or what no line begins with.
+fn form_begun(text: &[u8]) -> LogForm
+    ensures { IsFormBegun (first_word text.now) result }
+{
+    match form_of_words(text) {
+        LogForm::Service | LogForm::State | LogForm::Unknown => LogForm::Begin,
+        form => form,
+    }
+}
+
 /// The form of the text of a line behind the number of its service. The text begins with the name,
 /// and with what follows that.
 fn form_by(text: &[u8], name: &[u8], rest: &[u8]) -> LogForm
@@ -136,18 +147,27 @@ fn form_by(text: &[u8], name: &[u8], rest: &[u8]) -> LogForm
         return LogForm::Begin;
     }
     match after_word(rest, b"> ") {
-        Some(begun) => form_of_words(begun),
+        Some(begun) => form_begun(begun),
         None => LogForm::Begin,
     }
 }
 
-/// What follows the number of a service, or the line where it begins with none.
-fn behind_number(line: &[u8]) -> &[u8]
-    ensures { IsBehindNumber line.now result.now }
+/// The form of a text that stands alone, with no number of a service before it.
+fn form_alone(text: &[u8]) -> LogForm
+    ensures { HasFormAlone text.now result }
 {
-    match number_front(line) {
-        Some((_, text)) => text,
-        None => line,
+    let (name, rest) = split_name(text);
+    form_by(text, name, rest)
+}
+
+/// The form of a text behind the number of a service, where it has this form alone: the line of a
+/// service has no number before it.
+fn numbered_form(form: LogForm) -> LogForm
+    ensures { result ≡ numbered_form form }
+{
+    match form {
+        LogForm::Service => LogForm::Numbered,
+        _ => form,
     }
 }
 
@@ -160,7 +180,8 @@ fn behind_number(line: &[u8]) -> &[u8]
 pub fn form_of(line: &[u8]) -> LogForm
     ensures { HasForm line.now result }
 {
-    let text = behind_number(line);
-    let (name, rest) = split_name(text);
-    form_by(text, name, rest)
+    match number_front(line) {
+        Some((_, text)) => numbered_form(form_alone(text)),
+        None => form_alone(line),
+    }
 }

@@ -96,7 +96,7 @@ static ROWS: [Row; 28] = [
     // The line of a service needs a number of its own.
     (
         "state nodes 4\nservice event 7 3 2 2\n",
-        Said::BadLine(5, Expected::Call),
+        Said::BadLine(5, Expected::NewNumber),
     ),
     // Other services stay as they are.
     (

@@ -71,46 +71,55 @@ fn callers_have_one_call_open(rt: HostRuntime) -> Result<(), Fail> {
     are_judged(&rt, SERVICE, &CALLERS)
 }
 
-// What is told of a line that begins as none does; as those of one form do; and of one on no
-// service above.
+// What is told of a line that begins as none does; as those of one form do; of one on no service
+// above; of a number that is taken; and of a reply without a call.
 const NO_WORD: &str =
     "a line that begins with register, deregister, nodes, add, release, list, count, dead, \
-    state, service or a caller is expected";
+    state, service or a caller, whose name has 1 to 16 letters and digits, is expected";
 
-const REGISTER: &str = "register NODE is expected, as register 1.0.0.1";
+const REGISTER: &str = "register NODE is expected, as register 1.0.0.1, and no space behind it";
 
 const DEREGISTER: &str =
-    "deregister NUMBER or deregister SLOT TICKET is expected, as deregister 0 3";
+    "deregister NUMBER or deregister SLOT TICKET is expected, as deregister 0 3, \
+    and no space behind it";
 
-const NODES: &str = "nodes is expected, and nothing behind it";
+const NODES: &str = "nodes is expected, and nothing behind it, not even a space";
 
-const ADD: &str = "add ROLE PORT NODE is expected, as add listener 1.0.0.2 1.0.0.1";
+const ADD: &str =
+    "add ROLE PORT NODE is expected, as add listener 1.0.0.2 1.0.0.1, and no space behind it";
 
 const RELEASE: &str =
-    "release NUMBER or release ROLE SLOT TICKET is expected, as release listener 1 0";
+    "release NUMBER or release ROLE SLOT TICKET is expected, as release listener 1 0, \
+    and no space behind it";
 
-const LIST: &str = "list ROLE is expected, as list listener";
+const LIST: &str = "list ROLE is expected, as list listener, and no space behind it";
 
-const COUNT: &str = "count ROLE is expected, as count listener";
+const COUNT: &str = "count ROLE is expected, as count listener, and no space behind it";
 
-const DEAD: &str = "dead NODE or dead NODE skip PORT .. is expected, as dead 1.0.0.1";
+const DEAD: &str =
+    "dead NODE or dead NODE skip PORT .. is expected, as dead 1.0.0.1, and no space behind it";
 
-const WEAK_NODES: &str = "CALLER> nodes? is expected, as A> nodes?";
+const WEAK_NODES: &str = "CALLER> nodes? is expected, as A> nodes?, and no space behind it";
 
-const WEAK_LIST: &str = "CALLER> list? ROLE is expected, as A> list? listener";
+const WEAK_LIST: &str =
+    "CALLER> list? ROLE is expected, as A> list? listener, and no space behind it";
 
 const BEGIN: &str =
     "CALLER> COMMAND is expected, as A> nodes; a name has 1 to 16 letters and digits";
 
-const END: &str = "CALLER< REPLY is expected, as A< list; a name has 1 to 16 letters and digits";
+const END: &str = "CALLER< REPLY is expected, as A< list, with no number before it; \
+    a name has 1 to 16 letters and digits";
 
-const CRASH: &str = "CALLER! is expected, as A!; a name has 1 to 16 letters and digits";
+const CRASH: &str = "CALLER! is expected, as A!, with no number before it; \
+    a name has 1 to 16 letters and digits";
 
 const NUMBERED: &str =
-    "the number of a service is expected before the colon, as 7: nodes or 7: A> nodes";
+    "NUMBER: COMMAND, NUMBER: CALLER> COMMAND or NUMBER: state .. is expected, as 7: A> nodes; \
+    NUMBER is that of a service above";
 
 const SERVICE_LINE: &str =
-    "service PATTERN NUMBER NODES FIRST SECOND is expected, as service event 7 2 2 0";
+    "service PATTERN NUMBER NODES FIRST SECOND is expected, as service event 7 2 2 0; \
+    a pattern is publish-subscribe, event, request-response or blackboard";
 
 const STATE: &str =
     "state .. is expected, as state nodes 20, state nodes 20 locked, state listener 4, \
@@ -118,8 +127,12 @@ const STATE: &str =
 
 const ON_NONE: &str = "a line on a service above, by its number, or a new service is expected";
 
+const TAKEN: &str = "another number is expected: a service above has this one";
+
+const NO_CALL: &str = "the command of a call is expected above its reply, as nodes above = list";
+
 /// Lines that may not stand below that of a service, and what is told of them.
-static BAD_LINES: [(&str, &str); 56] = [
+static BAD_LINES: [(&str, &str); 61] = [
     ("foo", NO_WORD),
     (" # a", NO_WORD),
     ("regster 1.0.0.1", NO_WORD),
@@ -129,11 +142,8 @@ static BAD_LINES: [(&str, &str); 56] = [
     ("A", NO_WORD),
     ("A > nodes", NO_WORD),
     ("A-b> nodes", NO_WORD),
+    ("thread_1> nodes", NO_WORD),
     ("=list", NO_WORD),
-    ("A> ", NO_WORD),
-    ("A> leave", NO_WORD),
-    ("A> 7: nodes", NO_WORD),
-    ("7: A> Nodes", NO_WORD),
     ("7: ", NO_WORD),
     ("register", REGISTER),
     ("register 1.0.0", REGISTER),
@@ -154,6 +164,7 @@ static BAD_LINES: [(&str, &str); 56] = [
     ("release listener 0", RELEASE),
     ("list", LIST),
     ("list listeners", LIST),
+    ("list listener ", LIST),
     ("A> list nodes", LIST),
     ("count", COUNT),
     ("dead 1.0.0.1 skip", DEAD),
@@ -162,6 +173,12 @@ static BAD_LINES: [(&str, &str); 56] = [
     ("A>nodes", BEGIN),
     ("A>", BEGIN),
     ("> nodes", BEGIN),
+    ("A> ", BEGIN),
+    ("A> leave", BEGIN),
+    ("A> 7: nodes", BEGIN),
+    ("7: A> Nodes", BEGIN),
+    ("A> state nodes 2", BEGIN),
+    ("A> service event 8 2 2 2", BEGIN),
     ("abcdefghijklmnopq> nodes", BEGIN),
     ("A<list", END),
     ("7: A< list", END),
@@ -170,12 +187,13 @@ static BAD_LINES: [(&str, &str); 56] = [
     ("A!!", CRASH),
     ("A: nodes", NUMBERED),
     ("07: nodes", NUMBERED),
+    ("7: service event 8 2 2 2", NUMBERED),
     ("service event 7 1 0", SERVICE_LINE),
-    ("A> service event 7 1 0 0", SERVICE_LINE),
+    ("service pubsub 8 2 2 2", SERVICE_LINE),
     ("state nodes", STATE),
-    ("= list", ON_NONE),
+    ("= list", NO_CALL),
     ("8: nodes", ON_NONE),
-    ("service event 7 1 0 0", ON_NONE),
+    ("service event 7 1 0 0", TAKEN),
 ];
 
 #[test]
@@ -190,13 +208,17 @@ fn what_is_told_of_bad_lines(rt: HostRuntime) -> Result<(), Fail> {
 }
 
 /// What is no reply, and how lines end.
-static REPLIES: [Row; 18] = [
+static REPLIES: [Row; 19] = [
     ("nodes\n", Said::BadLine(3, Expected::Reply)),
     ("nodes\n#\n\n", Said::BadLine(5, Expected::Reply)),
     ("nodes\n#\n\n= list\n", Said::Conforms(1, 1)),
     ("nodes\nnodes\n", Said::BadLine(3, Expected::Reply)),
     ("nodes\nA> nodes\n", Said::BadLine(3, Expected::Reply)),
     ("nodes\n=list\n", Said::BadLine(3, Expected::Reply)),
+    (
+        "nodes\n= list\n= list\n",
+        Said::BadLine(4, Expected::CallAlone),
+    ),
     ("nodes\n= foo\n", Said::BadLine(3, Expected::Reply)),
     ("A> nodes\nA< foo\n", Said::BadLine(3, Expected::Reply)),
     ("A> nodes\nA< list A\n", Said::BadLine(3, Expected::Reply)),

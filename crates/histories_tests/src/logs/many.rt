@@ -38,7 +38,7 @@ static BEHIND_SERVICES: [Row; 6] = [
     ("17: nodes\n= locked\n", Said::Refused(9002, 9002, 1)),
     (
         "service event 2999 1 0 0\n",
-        Said::BadLine(9001, Expected::Call),
+        Said::BadLine(9001, Expected::NewNumber),
     ),
     ("3000: nodes\n= list\n", Said::BadLine(9001, Expected::Call)),
     ("nodes\n= list\n", Said::BadLine(9001, Expected::Call)),

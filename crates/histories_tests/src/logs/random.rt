@@ -81,7 +81,9 @@ fn random_bytes_are_judged(rt: HostRuntime) -> Result<(), Fail> {
             let log = random_log(rt.alloc(), front, turn % 40, &mut seed)?;
             let wanted = verdict_of(log.get(front.len()..).unwrap_or(&[]), above, expected);
             let found = match verdict_on(rt.alloc(), &log)? {
-                Said::BadLine(line, Expected::Form(_)) => Said::BadLine(line, Expected::Call),
+                Said::BadLine(line, Expected::Form(_) | Expected::CallAlone) => {
+                    Said::BadLine(line, Expected::Call)
+                }
                 other => other,
             };
             assert_eq!(rt; (turn, found), (turn, wanted));

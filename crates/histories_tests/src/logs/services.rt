@@ -49,7 +49,7 @@ static ROWS: [Row; 20] = [
     // A number is that of one service.
     (
         "service blackboard 8 1 0 0\n",
-        Said::BadLine(11, Expected::Call),
+        Said::BadLine(11, Expected::NewNumber),
     ),
     ("8: nodes\n8: = list\n", Said::BadLine(12, Expected::Reply)),
     // The begin of a call names its service, and its end does not.

@@ -81,21 +81,22 @@ static VERDICTS: [(&str, u8, &str, &str); 17] = [
         "",
         2,
         "",
-        "line 1: the line of a service is expected, as service event 7 2 2 0\n",
+        "line 1: the line of a service is expected, as service event 7 2 2 0; a pattern is \
+        publish-subscribe, event, request-response or blackboard\n",
     ),
     (
         "service event 7 2 0 1\nnode\n",
         2,
         "",
         "line 2: a line that begins with register, deregister, nodes, add, release, list, count, \
-        dead, state, service or a caller is expected\n",
+        dead, state, service or a caller, whose name has 1 to 16 letters and digits, is expected\n",
     ),
     (
         "service event 7 2 0 1\nnodes\n",
         2,
         "",
-        "line 3: a reply is expected, as handle 0 3, list, count 2 or released; below a call alone \
-        with = before it\n",
+        "line 3: a reply is expected, as handle 0 3, list 1000000000000000000000001, count 2 or \
+        released; below a call alone with = before it\n",
     ),
     (
         "service event 7 2 0 1\nA> nodes\nA> nodes\n",
@@ -143,8 +144,8 @@ static VERDICTS: [(&str, u8, &str, &str); 17] = [
         "service event 7 2 0 1\nnodes\n= foo\n",
         2,
         "",
-        "line 3: a reply is expected, as handle 0 3, list, count 2 or released; below a call alone \
-        with = before it\n",
+        "line 3: a reply is expected, as handle 0 3, list 1000000000000000000000001, count 2 or \
+        released; below a call alone with = before it\n",
     ),
 ];
 

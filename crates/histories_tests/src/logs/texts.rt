@@ -25,9 +25,11 @@ static SHOWN: [(&str, &str); 3] = [
     ),
 ];
 
-static EXPECTED: [(Expected, &str); 11] = [
+static EXPECTED: [(Expected, &str); 13] = [
     (Expected::Service, "Service"),
     (Expected::Call, "Call"),
+    (Expected::NewNumber, "NewNumber"),
+    (Expected::CallAlone, "CallAlone"),
     (Expected::Form(LogForm::WeakList), "Form(WeakList)"),
     (Expected::Reply, "Reply"),
     (Expected::IdleCaller, "IdleCaller"),

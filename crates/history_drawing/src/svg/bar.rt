@@ -155,7 +155,7 @@ fn write_circle(out: &mut String, x: usize, y: usize, number: usize) -> Result<(
 {
     writeln!(
         out,
-        "<circle class=\"point\" cx=\"{x}\" cy=\"{y}\" r=\"9\"/><text class=\"number\" x=\"{x}\" y=\"{y}\" dy=\"4\">{number}</text>"
+        "<circle class=\"point\" cx=\"{x}\" cy=\"{y}\" r=\"9\"/><text class=\"number\" x=\"{x}\" y=\"{y}\" dy=\"3\">{number}</text>"
     )
 }
 
@@ -168,7 +168,7 @@ pub(super) fn write_point(
 ) -> Result<(), AllocError>
     requires few { length bars.now ≤ 200 }
     requires row { point.now.row ≤ 200 }
-    requires part { point.now.part ≤ 200 }
+    requires part { point.now.part ≤ 400 }
     ensures { OnOk result (string_bytes out.new
         ≡ string_bytes out.old ++ point_text bars.now point.now) }
 {

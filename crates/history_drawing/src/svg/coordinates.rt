@@ -86,7 +86,7 @@ pub(super) fn end_of(bars: &[Bar<'_>], end: &BarEnd<'_>) -> usize
 /// Where a point stands: in the column of this line, behind so many others.
 pub(super) fn point_of(bars: &[Bar<'_>], line: usize, part: usize) -> usize
     requires few { length bars.now ≤ 200 }
-    requires part { part ≤ 200 }
+    requires part { part ≤ 400 }
     ensures { result ≡ point_of bars.now line part }
 {
     left(bars, line) + COLUMN * (part + 1) / (part + 2)

@@ -44,7 +44,7 @@ text { fill: #222222; font-size: 12px }
 .refused .end, .refused .bar { stroke: #c4161c; stroke-width: 4 }
 .refused .reply { fill: #c4161c; font-weight: bold }
 .point { fill: #222222 }
-.number { fill: #ffffff; font-size: 11px; text-anchor: middle }
+.number { fill: #ffffff; font-size: 9px; text-anchor: middle }
 @media (prefers-color-scheme: dark) {
 text { fill: #eeeeee }
 .page { fill: #1b1b1b }

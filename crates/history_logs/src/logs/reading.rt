@@ -105,7 +105,7 @@ impl Reading {
         ensures numbers { self.new.numbers ≡ self.old.numbers }
     {
         if self.position_of(line.number).is_some() {
-            return Ok(Some(Expected::Call));
+            return Ok(Some(Expected::NewNumber));
         }
         self.services.push(LogService::new(alloc, line))?;
         Ok(None)
@@ -288,7 +288,7 @@ impl Reading {
         match read {
             LogLine::Service(service) => self.service(alloc, service),
             LogLine::Call(number, command) => Ok(self.call(number, command)),
-            LogLine::Reply(_) => Ok(Some(Expected::Call)),
+            LogLine::Reply(_) => Ok(Some(Expected::CallAlone)),
             LogLine::Begin(number, caller, begun) => {
                 self.begin(alloc, number, caller, begun, line)
             }

@@ -3,10 +3,10 @@ ghost use Rattle.std.specs.Prelude.{◌≡◌, ◌++◌, ℕ, IfOk, List, OnOk, 
 ghost use Rattle.std.specs.List.{flat_map};
 ghost use Rattle.history_logs.specs.Reports.{attached_text, call_text, choice_text, config_text};
 ghost use Rattle.history_logs.specs.Reports.{conforms_text, expected_text, for_count, form_text};
-ghost use Rattle.history_logs.specs.Reports.{before_next, free_text, lists_text, range_text};
+ghost use Rattle.history_logs.specs.Reports.{before_next, free_text, ids_text, lists_text};
 ghost use Rattle.history_logs.specs.Reports.{line_of, made_text, next_text, number_word, order_text};
-ghost use Rattle.history_logs.specs.Reports.{possible_text, refusal_text, refused_text, report_text};
-ghost use Rattle.history_logs.specs.Reports.{which_text, window_text};
+ghost use Rattle.history_logs.specs.Reports.{possible_text, range_text, refusal_text, refused_text};
+ghost use Rattle.history_logs.specs.Reports.{report_text, which_text, window_text};
 ghost use Rattle.service_descriptions.specs.Replies.{id_word, port_word, text_of};
 
 use super::verdict::{Configuration, Expected, Order, Refusal, Verdict};
@@ -147,15 +147,31 @@ fn append_next(next: &NextHandle, out: &mut Vec<u8>) -> Result<(), AllocError>
     append_number(b" ", next.ticket, out)
 }
 
-/// Appends the ids for which the reply to a weak listing is refused.
-fn append_list(lists: &PossibleList, out: &mut Vec<u8>) -> Result<(), AllocError>
-    ensures { OnOk result (out.new.items ≡ out.old.items ++ lists_text lists.now) }
+/// Appends the ids with which, and those without which, a list would do.
+#[tactic(auto, unfolding(crate::specs::Reports::ids_text))]
+fn append_ids(lists: &PossibleList, out: &mut Vec<u8>) -> Result<(), AllocError>
+    ensures { OnOk result (out.new.items
+        ≡ out.old.items ++ ids_text lists.now.missing.items lists.now.unseen.items) }
 {
     out.extend_from_slice(b"the list with:")?;
     append_each(&lists.missing, out)?;
     out.extend_from_slice(b", without:")?;
     append_each(&lists.unseen, out)?;
     Ok(())
+}
+
+/// Appends the ids for which the reply to a weak listing is refused. Where there are none, it is no
+/// list.
+fn append_list(lists: &PossibleList, out: &mut Vec<u8>) -> Result<(), AllocError>
+    ensures { OnOk result (out.new.items ≡ out.old.items ++ lists_text lists.now) }
+{
+    if !lists.missing.is_empty() {
+        return append_ids(lists, out);
+    }
+    if !lists.unseen.is_empty() {
+        return append_ids(lists, out);
+    }
+    out.extend_from_slice(b"a list")
 }
 
 /// Appends the replies that a run gives.
@@ -244,7 +260,8 @@ fn append_window(window: usize, needed: &[usize], out: &mut Vec<u8>) -> Result<(
     Ok(())
 }
 
-/// Appends which reply no order explains: that in the line, or one above it.
+/// Appends which reply no order explains with all that is seen down to a line: that in it, or one
+/// above it.
 fn append_which(line: usize, reply: usize, out: &mut Vec<u8>) -> Result<(), AllocError>
     ensures { OnOk result (out.new.items ≡ out.old.items ++ which_text line reply) }
 {
@@ -252,7 +269,7 @@ fn append_which(line: usize, reply: usize, out: &mut Vec<u8>) -> Result<(), Allo
         return out.extend_from_slice(b": no order of the calls explains this reply");
     }
     append_number(
-        b": with this reply no order of the calls explains that in line ",
+        b": down to here no order of the calls explains the reply in line ",
         reply as u64,
         out,
     )
@@ -299,39 +316,62 @@ fn form_text(form: LogForm) -> &'static [u8]
 {
     match form {
         LogForm::Service => {
-            b": service PATTERN NUMBER NODES FIRST SECOND is expected, as service event 7 2 2 0\n"
+            b": service PATTERN NUMBER NODES FIRST SECOND is expected, as service event 7 2 2 0; \
+            a pattern is publish-subscribe, event, request-response or blackboard\n"
         }
         LogForm::State => {
             b": state .. is expected, as state nodes 20, state nodes 20 locked, state listener 4, \
             state 0 17 register 1.0.0.1 or state 3 2 add listener 1.0.0.2 1.0.0.1\n"
         }
-        LogForm::Register => b": register NODE is expected, as register 1.0.0.1\n",
+        LogForm::Register => {
+            b": register NODE is expected, as register 1.0.0.1, and no space behind it\n"
+        }
         LogForm::Deregister => {
-            b": deregister NUMBER or deregister SLOT TICKET is expected, as deregister 0 3\n"
+            b": deregister NUMBER or deregister SLOT TICKET is expected, as deregister 0 3, \
+            and no space behind it\n"
         }
-        LogForm::Nodes => b": nodes is expected, and nothing behind it\n",
-        LogForm::Add => b": add ROLE PORT NODE is expected, as add listener 1.0.0.2 1.0.0.1\n",
+        LogForm::Nodes => b": nodes is expected, and nothing behind it, not even a space\n",
+        LogForm::Add => {
+            b": add ROLE PORT NODE is expected, as add listener 1.0.0.2 1.0.0.1, \
+            and no space behind it\n"
+        }
         LogForm::Release => {
-            b": release NUMBER or release ROLE SLOT TICKET is expected, as release listener 1 0\n"
+            b": release NUMBER or release ROLE SLOT TICKET is expected, as release listener 1 0, \
+            and no space behind it\n"
         }
-        LogForm::List => b": list ROLE is expected, as list listener\n",
-        LogForm::Count => b": count ROLE is expected, as count listener\n",
-        LogForm::Dead => b": dead NODE or dead NODE skip PORT .. is expected, as dead 1.0.0.1\n",
-        LogForm::WeakNodes => b": CALLER> nodes? is expected, as A> nodes?\n",
-        LogForm::WeakList => b": CALLER> list? ROLE is expected, as A> list? listener\n",
+        LogForm::List => b": list ROLE is expected, as list listener, and no space behind it\n",
+        LogForm::Count => {
+            b": count ROLE is expected, as count listener, and no space behind it\n"
+        }
+        LogForm::Dead => {
+            b": dead NODE or dead NODE skip PORT .. is expected, as dead 1.0.0.1, \
+            and no space behind it\n"
+        }
+        LogForm::WeakNodes => {
+            b": CALLER> nodes? is expected, as A> nodes?, and no space behind it\n"
+        }
+        LogForm::WeakList => {
+            b": CALLER> list? ROLE is expected, as A> list? listener, and no space behind it\n"
+        }
         LogForm::Begin => {
             b": CALLER> COMMAND is expected, as A> nodes; a name has 1 to 16 letters and digits\n"
         }
         LogForm::End => {
-            b": CALLER< REPLY is expected, as A< list; a name has 1 to 16 letters and digits\n"
+            b": CALLER< REPLY is expected, as A< list, with no number before it; \
+            a name has 1 to 16 letters and digits\n"
         }
-        LogForm::Crash => b": CALLER! is expected, as A!; a name has 1 to 16 letters and digits\n",
+        LogForm::Crash => {
+            b": CALLER! is expected, as A!, with no number before it; \
+            a name has 1 to 16 letters and digits\n"
+        }
         LogForm::Numbered => {
-            b": the number of a service is expected before the colon, as 7: nodes or 7: A> nodes\n"
+            b": NUMBER: COMMAND, NUMBER: CALLER> COMMAND or NUMBER: state .. is expected, \
+            as 7: A> nodes; NUMBER is that of a service above\n"
         }
         LogForm::Unknown => {
             b": a line that begins with register, deregister, nodes, add, release, list, count, \
-            dead, state, service or a caller is expected\n"
+            dead, state, service or a caller, whose name has 1 to 16 letters and digits, \
+            is expected\n"
         }
     }
 }
@@ -341,14 +381,21 @@ fn expected_text(expected: Expected) -> &'static [u8]
     ensures { result.now ≡ expected_text expected }
 {
     match expected {
-        Expected::Service => b": the line of a service is expected, as service event 7 2 2 0\n",
+        Expected::Service => {
+            b": the line of a service is expected, as service event 7 2 2 0; \
+            a pattern is publish-subscribe, event, request-response or blackboard\n"
+        }
         Expected::Call => {
             b": a line on a service above, by its number, or a new service is expected\n"
         }
+        Expected::NewNumber => b": another number is expected: a service above has this one\n",
+        Expected::CallAlone => {
+            b": the command of a call is expected above its reply, as nodes above = list\n"
+        }
         Expected::Form(form) => form_text(form),
         Expected::Reply => {
-            b": a reply is expected, as handle 0 3, list, count 2 or released; below a call alone \
-            with = before it\n"
+            b": a reply is expected, as handle 0 3, list 1000000000000000000000001, count 2 or \
+            released; below a call alone with = before it\n"
         }
         Expected::IdleCaller => b": a caller without an open call is expected\n",
         Expected::OpenCall => b": a caller with an open call is expected\n",

@@ -9,8 +9,13 @@ use service_conformance::conformance::PossibleReplies;
 pub enum Expected {
     /// The line of a service: none is above.
     Service,
-    /// The line of a service with a number of its own, or a line on a service above.
+    /// A line on a service above: no service has the number before it, or none stands there and
+    /// several are above.
     Call,
+    /// Another number: a service above has that of the line.
+    NewNumber,
+    /// A call alone above the line of its reply.
+    CallAlone,
     /// A line of this form: the text is that of no line, and begins as lines of the form do.
     Form(LogForm),
     /// The words of a reply: behind `= ` below a call alone, or of a call that ends.

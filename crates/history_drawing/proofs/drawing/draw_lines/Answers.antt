@@ -25,7 +25,7 @@ drawn-requires c =
 pub returns-in_default : goal.returns-in_default
 returns-in_default c =
     let many = rw c.in_default.is at c.in_ok-timeline.ensures.none in
-    IfOk-weaker _ _ _ (λ d h. inl (h, many)) c.undrawn.ensures
+    IfOk-weaker _ _ _ (λ d h. inl (h, many)) c.without_room.ensures
 
 pub returns : goal.returns
 returns c =
