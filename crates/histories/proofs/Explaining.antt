@@ -315,7 +315,8 @@ module _ {S : Type 0} (Step : S → ℕ → S → Type 0) where
             ),
         λ to.
             let parts = explains_split es fs to.0 s to.1 first second whole a.quiet to.3 in
-            (b.led s).1 (parts.0, parts.2, (a.led parts.0).1 (to.0, parts.1, to.2, parts.3), parts.4),
+            let mid = (a.led parts.0).1 (to.0, parts.1, to.2, parts.3) in
+            (b.led s).1 (parts.0, parts.2, mid, parts.4),
       ))
 
 -- Of a call that has begun, each step is a step of the others too, between what is seen of states.
