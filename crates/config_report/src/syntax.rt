@@ -6,18 +6,23 @@ ghost use Rattle.toml_parser.specs.Strings.{key};
 
 use crate::finding::TomlKey;
 use std::alloc::{AllocError, Global};
-use toml_parser::text::{first, skip, skip_blank};
+use toml_parser::text::{byte_at, first, skip, skip_blank};
 use toml_parser::{Key, ParseError, dotted_key, quoted, starts_string, unquoted};
 
-/// Why a text is no TOML: the words of `toml`, with the key that is written twice, leads through a
-/// value or has a number that is out of range, or with more of what a value may be. The texts are
-/// the whole one and that from the error on.
+/// Why a text is no TOML: the control character that stands there, or the words of `toml`, with the
+/// key that is written twice, leads through a value or has a number that is out of range, or with
+/// more of what a value may be. The texts are the whole one and that from the error on.
 pub(crate) fn syntax_words(
     alloc: Global,
     error: &toml::de::Error,
     whole: &str,
     text: &str,
 ) -> Result<String, AllocError> {
+    if let Some(code) = control_character(text) {
+        return format!(in alloc;
+            "control character U+{code:04X}, and TOML has none but tabs and the ends of lines"
+        );
+    }
     let (words, at_key) = match error.message() {
         "duplicate key" => ("duplicate key", text),
         "cannot extend a value with a dotted key" => ("cannot extend a value with the key", text),
@@ -37,6 +42,18 @@ pub(crate) fn syntax_words(
     match first_key(alloc, past_brackets(at_key))? {
         Some(key) => format!(in alloc; "{words} `{}`", key.as_str()),
         None => String::from_str(alloc, error.message()),
+    }
+}
+
+/// The control character of ASCII that a text begins with, if TOML has it nowhere: it is no tab, no
+/// newline, and no carriage return in front of one.
+fn control_character(text: &str) -> Option<u8> {
+    match first(text) {
+        _ if text.is_empty() => None,
+        b'\t' | b'\n' => None,
+        b'\r' if byte_at(text, 1) == b'\n' => None,
+        byte if byte < b' ' || byte == 0x7F => Some(byte),
+        _ => None,
     }
 }
 
