@@ -1,5 +1,5 @@
 -- Lists that are made one item after the other.
-use Rattle.config_report.proofs.Prelude.{◌≡◌, ℕ, ◌+◌, ◌≤◌, ◌<◌, List, [], ◌∷◌, ◌++◌, length, map, drop, get_or, refl, add-one, append_assoc, append-nil, arith, drop-cons, drop_of_length-le, flat_map, map-append}
+use Rattle.config_report.proofs.Prelude.{◌≡◌, ℕ, ◌+◌, ◌≤◌, ◌<◌, List, [], ◌∷◌, ◌++◌, length, map, drop, get_or, refl, add-one, append_assoc, append-nil, arith, drop-cons, drop_of_length-le, flat_map}
 
 -- one text is written after another, or one list added
 pub then : {A : Type 0} (out mid new first second : List A) → mid ≡ out ++ first
@@ -13,15 +13,6 @@ pub one_more : {A B C : Type 0} (view : A → B) (text : B → List C) (xs : Lis
     → new ++ flat_map text (map view (drop (i + 1) xs)) ≡ whole
 one_more view text xs i x out new whole lt is before wrote =
     grind (arith, add-one, drop-cons, append_assoc)
-
--- one more of some values is listed
-pub one_listed : {A B C D : Type 0} (seen : A → B) (f : B → C) (view : D → C) (xs : List A)
-    (i : ℕ) (x : A) (old new : List D) (y : D) (whole : List C) → i < length xs
-    → x ≡ get_or xs i x → map view old ++ map f (map seen (drop i xs)) ≡ whole
-    → new ≡ old ++ y ∷ [] → view y ≡ f (seen x)
-    → map view new ++ map f (map seen (drop (i + 1) xs)) ≡ whole
-one_listed seen f view xs i x old new y whole lt is before added same =
-    grind (arith, add-one, drop-cons, map-append, append_assoc)
 
 -- past the last of some values all of them are mapped
 pub all_mapped : {A B C : Type 0} (view : A → B) (f : B → C) (xs : List A) (i : ℕ)

@@ -9,19 +9,25 @@ use std::alloc::{AllocError, Global};
 use toml_parser::text::{first, skip, skip_blank};
 use toml_parser::{Key, ParseError, dotted_key, quoted, starts_string, unquoted};
 
-/// Why a text is no TOML: the words of `toml`, with the key that is written twice, leads through a
-/// value or has a number that is out of range, with the character that no key without quotes has,
-/// or with more of what may be written. The texts are the whole one and that from the error on.
+/// Why a text is no TOML: the control character that stands there, or the words of `toml`, with the
+/// key that is written twice, leads through a value or has a number that is out of range, with the
+/// character that no key without quotes has, or with more of what may be written. The texts are the
+/// whole one and that from the error on.
 pub(crate) fn syntax_words(
     alloc: Global,
     error: &toml::de::Error,
     whole: &str,
     text: &str,
 ) -> Result<String, AllocError> {
+    if is_lone_return(text) {
+        return String::from_str(alloc, "a carriage return without a newline after it");
+    }
+    if let Some(code) = control_character(text) {
+        return format!(in alloc;
+            "control character U+{code:04X}, and TOML has none but tabs and the ends of lines"
+        );
+    }
     let (words, at_key) = match error.message() {
-        _ if is_lone_return(text) => {
-            return String::from_str(alloc, "a carriage return without a newline after it");
-        }
         words if is_of_keys(words) && !is_ascii_first(text) => return no_bare_key(alloc, text),
         "duplicate key" => ("duplicate key", text),
         "cannot extend a value with a dotted key" => ("cannot extend a value with the key", text),
@@ -92,6 +98,17 @@ fn is_dotted(alloc: Global, text: &str) -> Result<bool, AllocError> {
         Ok((key, _rest)) => Ok(!key.path.is_empty()),
         Err(ParseError::OutOfMemory) => Err(AllocError),
         Err(_) => Ok(false),
+    }
+}
+
+/// The control character of ASCII that a text begins with, if TOML has it nowhere: it is no tab, no
+/// newline and no carriage return.
+fn control_character(text: &str) -> Option<u8> {
+    match first(text) {
+        _ if text.is_empty() => None,
+        b'\t' | b'\n' | b'\r' => None,
+        byte if byte < b' ' || byte == 0x7F => Some(byte),
+        _ => None,
     }
 }
 

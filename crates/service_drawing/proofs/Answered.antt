@@ -8,6 +8,7 @@ use Rattle.std.specs.Result.{IsErr, IsErrAnd, MatchResult}
 use Rattle.iox2_config.specs.declared.config.Config.{Config}
 use Rattle.service_drawing.specs.Descriptions.{StopsReading, IsOver, IsReason}
 use Rattle.service_drawing.specs.Streams.{IsRequestOf, IsRead, status_of, output_text, error_text, ReportsBadLine, Draws, Answers, Reported}
+use Rattle.service_drawing.specs.declared.streams.Form.{Form}
 use Rattle.service_drawing.specs.declared.streams.Request.{Request}
 use Rattle.service_drawing.specs.declared.fault.Fault.{Fault}
 use Rattle.service_drawing.specs.declared.fault.Fault.TheVariants.{BadLine, NoMemory}
@@ -40,12 +41,13 @@ pub handed_on : {A E : Type 0} (Good : A → Type 0) (Bad : E → Type 0) (r : R
 handed_on Good Bad r why h bad = grind arith
 
 -- the line that is reported is that where reading stopped
-pub draws_no_more : (base : Config) (warnings rest bytes : List ℕ) (expected : Expected)
+pub draws_no_more : (form : Form) (base : Config) (warnings rest bytes : List ℕ)
+    (expected : Expected)
     (fault : Fault) → IsOver base warnings rest bytes
     → StopsReading base expected.rest.now rest
     × IsReason base expected.reason expected.rest.now rest
-    → ReportsBadLine bytes expected fault → Draws bytes (Err fault)
-draws_no_more base warnings rest bytes expected (BadLine report) over s
+    → ReportsBadLine bytes expected fault → Draws form bytes (Err fault)
+draws_no_more form base warnings rest bytes expected (BadLine report) over s
     (line, cause, number, because, is) = (
       line,
       cause,
@@ -66,5 +68,5 @@ draws_no_more base warnings rest bytes expected (BadLine report) over s
       },
       is,
     )
-draws_no_more base warnings rest bytes expected NoMemory over s h = tt
-draws_no_more base warnings rest bytes expected _ over s h = absurd h
+draws_no_more form base warnings rest bytes expected NoMemory over s h = tt
+draws_no_more form base warnings rest bytes expected _ over s h = absurd h

@@ -3,6 +3,7 @@ mod Attributes
 mod Descriptions
 mod Forms
 mod Inside
+mod Pictures
 mod SettingLines
 mod Spaces
 mod Words

@@ -1,7 +1,9 @@
--- Promises: how a description is spelled, and what the streams of the program get.
+-- Promises: how a description is spelled, what is drawn of it, and what the streams of the program
+-- get.
+pub mod Bars
 pub mod Descriptions
+pub mod Layout
 pub mod Lines
 pub mod Settings
 pub mod Streams
--- Inner facts: where the parts of a drawn message lie, and which messages the ports send.
-pub mod Layout
+pub mod Svg

@@ -17,7 +17,9 @@ use Rattle.std.specs.Fmt.{decimal}
 use Rattle.std.specs.Io.KnownBytes.{Appends, IsAtEnd}
 use Rattle.line_streams.specs.Filters.{either}
 use Rattle.iox2_config.specs.declared.config.Config.{Config}
-use Rattle.service_drawing.specs.Descriptions.{IsCause, IsReason, IsDescription, StopsReading, IsOver, IsNotOver}
+use Rattle.service_drawing.specs.Descriptions.{IsCause, IsReason, HasDescription, StopsReading, IsOver, IsNotOver}
+use Rattle.service_drawing.specs.Svg.{IsPicture}
+use Rattle.service_drawing.specs.declared.description.Description.{Description}
 use Rattle.service_drawing.specs.declared.streams.TheConstants.{HELP, VERSION}
 use Rattle.service_drawing.specs.declared.reading.cause.Cause.{Cause}
 use Rattle.service_drawing.specs.declared.reading.cause.Cause.TheVariants.{NoNewline, CarriageReturn, ForeignByte, TwoSpaces, Read}
@@ -96,7 +98,8 @@ fault_text BadArgument =
     codes "bad argument: expected svg, -h, --help, --version, or no argument; "
     ++ codes "the description is read from the standard input\n"
 fault_text (BadSettings lines) = string_bytes lines
-fault_text NoEnd = codes "bad settings: no line end follows the line config\n"
+fault_text NoEnd =
+    codes "bad settings: no line end, with a newline alone behind it, follows the line config\n"
 fault_text NoMemory = codes "no memory" ++ 10 ∷ []
 
 -- what the line of this number may begin with: the first one may also begin a block of settings
@@ -131,23 +134,29 @@ pub record IsBadLine (line : ℕ) (cause : Cause) (bytes : List ℕ) : Type 0 wh
   pub alone : (other : Reason) → IsReason base other left rest → other ≡ reason
   pub because : IsCause left reason cause
 
--- what is drawn of the bytes: a description, over the configuration of the block in front, if there
--- is one; or the number of the first line that none has there is reported, or what is wrong with
--- the block
-abbrev pub Draws : List ℕ → Result Written Fault → Type 0
-Draws bytes (Ok written) =
-    (base : Config) × (rest : List ℕ) × IsOver base (string_bytes written.warnings) rest bytes
-    × IsDescription base rest
-Draws bytes (Err (BadLine report)) =
+-- the text is the drawing of a described service
+abbrev pub IsDrawing : Form → Description → List ℕ → Type 0
+IsDrawing Svg d text = IsPicture d text
+IsDrawing Text d text = Unit {0}
+
+-- what is drawn of the bytes: the service of a description, over the configuration of the block in
+-- front, if there is one; or the number of the first line that none has there is reported, or what
+-- is wrong with the block
+abbrev pub Draws : Form → List ℕ → Result Written Fault → Type 0
+Draws form bytes (Ok written) =
+    (base : Config) × (rest : List ℕ) × (d : Description)
+    × IsOver base (string_bytes written.warnings) rest bytes × HasDescription base d rest
+    × IsDrawing form d (string_bytes written.text)
+Draws form bytes (Err (BadLine report)) =
     (line : ℕ) × (cause : Cause) × (prefix : List ℕ) × (form : List ℕ) × IsBadLine line cause bytes
     × (string_bytes report ≡ bad_line_text line cause (prefix_at line prefix) form)
-Draws bytes (Err fault) = IsNotOver bytes fault
+Draws form bytes (Err fault) = IsNotOver bytes fault
 
 -- what is answered: the bytes that the reader gives, if they are known, are drawn, or the text
 -- that was asked for is answered unless there is no memory for it
 abbrev pub Answers : Option (List ℕ) → Result Request Fault → Result Written Fault → Type 0
 Answers given (Err fault) end = end ≡ Err fault
-Answers given (Ok (Drawing form)) end = IfSome given (λ bytes. Draws bytes end)
+Answers given (Ok (Drawing form)) end = IfSome given (λ bytes. Draws form bytes end)
 Answers given (Ok Help) end = IsTextOrNoMemory HELP.now end
 Answers given (Ok Version) end = IsTextOrNoMemory VERSION.now end
 

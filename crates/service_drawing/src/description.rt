@@ -1,6 +1,7 @@
 //! What is described: a service, and the messages that its ports send.
 ghost use Rattle.service_drawing.specs.Layout.{AreSegments};
 
+use crate::sentences::opener_sentence;
 use config_report::{requests, responses, samples};
 use iox2_config::config::Config;
 use iox2_config::hash::{PatternKind, ServiceHash};
@@ -59,6 +60,8 @@ pub(crate) struct Segment<'a> {
     pub(crate) chunks: Option<usize>,
     /// How many such ports the service may have.
     pub(crate) ports: usize,
+    /// Whether the opener of the message may use it, and if not, why, if there is an opener.
+    pub(crate) opener: Option<&'static str>,
 }
 
 /// What the ports of a service send, at most two kinds of messages.
@@ -73,6 +76,7 @@ pub(crate) fn segments(service: &Description) -> [Option<Segment<'_>>; 2]
                 message,
                 chunks: samples(&service.config),
                 ports: service.config.defaults.publish_subscribe.max_publishers,
+                opener: opener_sentence(message),
             }),
             None,
         ],
@@ -83,6 +87,7 @@ pub(crate) fn segments(service: &Description) -> [Option<Segment<'_>>; 2]
                 message: request,
                 chunks: requests(&service.config),
                 ports: service.config.defaults.request_response.max_clients,
+                opener: opener_sentence(request),
             }),
             Some(Segment {
                 title: "response",
@@ -90,6 +95,7 @@ pub(crate) fn segments(service: &Description) -> [Option<Segment<'_>>; 2]
                 message: response,
                 chunks: responses(&service.config),
                 ports: service.config.defaults.request_response.max_servers,
+                opener: opener_sentence(response),
             }),
         ],
         Exchange::Event | Exchange::Blackboard(_) => [None, None],

@@ -110,7 +110,7 @@ impl Outcome for Fault {
             Fault::BadSettings(lines) => write_whole(errors, lines.as_bytes()),
             Fault::NoEnd => write_whole(
                 errors,
-                b"bad settings: no line end follows the line config\n",
+                b"bad settings: no line end, with a newline alone behind it, follows the line config\n",
             ),
             Fault::NoMemory => write_whole(errors, b"no memory\n"),
         }

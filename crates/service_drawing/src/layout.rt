@@ -1,7 +1,6 @@
 //! Where the parts of a message lie.
-ghost use Rattle.std.specs.Prelude.{◌≡◌, ◌<◌, ◌≤◌, ◌^◌, ◌+◌, ◌*◌, IfSome, IfNone, MatchOption};
-ghost use Rattle.iox2_config.specs.Layout.{HaveAlignments, sample_size};
-ghost use Rattle.service_drawing.specs.Layout.{IsLayoutOf, IsWhole, IsPartAt, span};
+ghost use Rattle.std.specs.Prelude.{◌≡◌, ◌<◌, ◌≤◌, ◌+◌, ◌*◌, IfSome};
+ghost use Rattle.service_drawing.specs.Layout.{IsPartAt, IsWhole, fitting, layout_of, span};
 
 use iox2_config::types::MessageTypeDetails;
 use std::ops::Range;
@@ -41,12 +40,10 @@ pub(crate) enum Part {
 
 impl MessageLayout {
     /// The layout of a message of this many elements, or `None` where it would pass 2^63 - 1 bytes.
-    #[tactic(auto, using(crate::proofs::Inside::ends_inside, iox2_texts::proofs::Multiple::multiples))]
+    #[tactic(auto, using(crate::proofs::Inside::ends_inside, iox2_texts::proofs::Multiple::multiples, crate::proofs::Inside::no_alignment, crate::proofs::Inside::too_large, crate::proofs::Inside::laid_out))]
     pub(crate) fn of(details: &MessageTypeDetails, elements: usize) -> Option<Self>
-        ensures some { IfSome result (λ layout. IsLayoutOf layout details.now elements) }
+        ensures value { result ≡ layout_of details.now elements }
         ensures inside { IfSome result (λ layout. IsWhole layout) }
-        ensures none { IfNone result
-            (HaveAlignments details.now → 2 ^ 63 ≤ sample_size details.now elements) }
     {
         if !details.has_alignments() {
             return None;
@@ -115,10 +112,9 @@ impl MessageLayout {
 
     /// How many bytes this many messages of each of so many ports take, or `None` where that passes
     /// 2^64 - 1.
-    #[tactic(auto, using(crate::proofs::Inside::no_less))]
+    #[tactic(auto, using(crate::proofs::Inside::no_less, crate::proofs::Inside::fits_so), unfolding(crate::specs::Layout::fitting))]
     pub(crate) fn memory_of_all(&self, chunks: usize, ports: usize) -> Option<usize>
-        ensures { MatchOption result (2 ^ 64 ≤ (chunks * self.now.size) * ports)
-            (λ bytes. bytes ≡ (chunks * self.now.size) * ports) }
+        ensures { result ≡ fitting ((chunks * self.now.size) * ports) }
     {
         match chunks.checked_mul(self.size) {
             Some(bytes) => bytes.checked_mul(ports),

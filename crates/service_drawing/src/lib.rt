@@ -2,8 +2,8 @@
 //! its settings, where the parts of its messages lie, how much memory its
 //! ports take, and whether its attributes are what an opener requires.
 //!
-//! Every number comes from a call whose contract says what it is; how it is laid out as text or as
-//! a picture is only tested.
+//! Every number comes from a call whose contract says what it is. `specs/Svg.antt` has the whole
+//! text of a picture; how a text is laid out is only tested.
 #![tactic(auto)]
 
 mod description;

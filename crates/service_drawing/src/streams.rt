@@ -3,20 +3,21 @@ ghost use Rattle.std.specs.Prelude.{[], ◌∷◌, drop, ◌≡◌, ◌<◌, ◌
 ghost use Rattle.std.specs.Prelude.{string_bytes};
 ghost use Rattle.service_drawing.specs.Descriptions.{IsNotOver, IsOver};
 ghost use Rattle.service_drawing.specs.Streams.{IsRequest, IsRequestOf, words_of, IsRead};
-ghost use Rattle.service_drawing.specs.Streams.{IsTextOrNoMemory, Draws, Answers, Reported};
+ghost use Rattle.service_drawing.specs.Streams.{IsDrawing, IsTextOrNoMemory, Draws, Answers, Reported};
 ghost use Rattle.service_drawing.specs.Streams.{RequestsDrawing};
 ghost use Rattle.std.specs.Io.KnownBytes.{IsAtEnd};
 ghost use Rattle.line_streams.specs.Streams.{IsFlushed, ReadFails, StreamFails};
 
+use crate::description::Description;
 use crate::fault::{Fault, bad_line};
 use crate::reading::read_description;
-use crate::svg::write_svg;
+use crate::svg::picture_of;
 use crate::text::write_text;
 use config_report::{ReportError, read_file};
 use iox2_config::config::Config;
 use line_streams::{Outcome, Sink, Source, after_word, read_all, write_outcome, write_whole};
 use memchr::memmem;
-use std::alloc::Global;
+use std::alloc::{AllocError, Global};
 use std::env::Args;
 use std::io;
 use std::io::{Error, ErrorKind};
@@ -156,24 +157,33 @@ struct Written {
 
 /// What a description is drawn as, or why it is not drawn.
 fn drawn(alloc: Global, form: Form, bytes: &[u8]) -> Result<Written, Fault>
-    ensures { Draws bytes.now result }
+    ensures { Draws form bytes.now result }
 {
     let over = base_of(alloc, bytes)?;
     let service = match read_description(over.rest, over.base) {
         Ok(service) => service,
         Err(expected) => return Err(bad_line(alloc, bytes, expected)),
     };
-    let mut out = String::new(alloc);
-    let done = match form {
-        Form::Text => write_text(&mut out, &service),
-        Form::Svg => write_svg(alloc, &mut out, &service),
-    };
-    match done {
-        Ok(()) => Ok(Written {
-            text: out,
+    match drawing(alloc, form, &service) {
+        Ok(text) => Ok(Written {
+            text,
             warnings: over.warnings,
         }),
         Err(_) => Err(Fault::NoMemory),
+    }
+}
+
+/// The drawing of a service.
+fn drawing(alloc: Global, form: Form, service: &Description) -> Result<String, AllocError>
+    ensures { IfOk result (λ text. IsDrawing form service.now (string_bytes text)) }
+{
+    match form {
+        Form::Text => {
+            let mut text = String::new(alloc);
+            write_text(&mut text, service)?;
+            Ok(text)
+        }
+        Form::Svg => picture_of(alloc, service),
     }
 }
 

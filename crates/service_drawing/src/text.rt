@@ -6,7 +6,7 @@ ghost use Rattle.service_drawing.specs.Layout.{IsWhole};
 
 use crate::description::{Description, Exchange, Message, Segment, segments};
 use crate::layout::{MessageLayout, Part};
-use crate::sentences::{Counted, Row, opener_sentence, rows, write_memory};
+use crate::sentences::{Counted, Row, rows, write_memory};
 use crate::settings::row;
 use arrayvec::ArrayVec;
 use iox2_config::config::Config;
@@ -187,7 +187,7 @@ pub(super) fn write_message(out: &mut String, segment: Segment<'_>) -> Result<()
     writeln!(out, "\n{title}: {size}, alignment {alignment}\n")?;
     write_bar(out, &layout)?;
     write_table(out, message, &layout)?;
-    if let Some(sentence) = opener_sentence(message) {
+    if let Some(sentence) = segment.opener {
         writeln!(out, "  {sentence}")?;
     }
     write!(out, "  ")?;

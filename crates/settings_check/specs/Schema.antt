@@ -7,7 +7,7 @@ use Rattle.iox2_config_file.specs.declared.section.Row.{Row}
 use Rattle.iox2_config_file.specs.declared.section.Section.{Section}
 use Rattle.iox2_config_file.specs.declared.section.Section.TheVariants as section
 use Rattle.iox2_config_file.specs.Read.{row_view, rows_in, sections}
-use Rattle.iox2_config_file.specs.Settings.{prefix_of}
+use Rattle.iox2_config_file.specs.Settings.{are_lines, prefix_of}
 use Rattle.iox2_config_file.specs.Write.{InTurn}
 use Rattle.settings_check.specs.declared.schema.TheConstants.{HEAD, DEFINITIONS, TAIL}
 
@@ -51,9 +51,9 @@ properties s is_first [] = []
 properties s is_first (row ∷ rows) =
     comma_if is_first ++ (property s row ++ properties s false rows)
 
--- the rows are those of the table
+-- the rows are those of the table, and what is said of each may stand in JSON as it is
 abbrev pub IsTable : Section → List Row → Type 0
-IsTable s rows = (c : Config) → map row_view rows ≡ rows_in s c
+IsTable s rows = ((c : Config) → map row_view rows ≡ rows_in s c) × (are_lines rows ≡ true)
 
 -- what a table may have: its keys, and no other
 abbrev pub object_schema : Section → List Row → List ℕ

@@ -7,7 +7,7 @@ use std::process::Abort;
 use std::test::Fail;
 
 /// A file, and what is reported of it.
-const REPORTED: [(&[u8], &str); 53] = [
+const REPORTED: [(&[u8], &str); 58] = [
     (
         b"# two faults\n[global]\nprefix = 1\n[defaults.event]\n\t\"max-nodes\" = -1\n",
         "3:1: error: global.prefix: is an integer, and a string with the name of a file is wanted\n\
@@ -71,6 +71,23 @@ const REPORTED: [(&[u8], &str); 53] = [
          date-time, an array or an inline table\n",
     ),
     (b"a = 1_\n", "1:5: error: `_` may only go between digits\n"),
+    (
+        b"a = 1\n# c\x0Cd\n",
+        "2:4: error: control character U+000C, and TOML has none but tabs and the ends of lines\n",
+    ),
+    (
+        b"# c\rd\n",
+        "1:4: error: a carriage return without a newline after it\n",
+    ),
+    (
+        b"a = [1, '\x7F']\n",
+        "1:10: error: control character U+007F, and TOML has none but tabs and the ends of lines\n",
+    ),
+    (
+        b"a = 1\0",
+        "1:6: error: control character U+0000, and TOML has none but tabs and the ends of lines\n",
+    ),
+    (b"b\r\n", "1:2: error: key with no value, expected `=`\n"),
     (
         b"[defaults.event]\nmax-nodes = 9223372036854775808\n",
         "2:13: error: number out of range for the key `max-nodes`\n",

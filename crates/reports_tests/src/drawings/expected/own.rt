@@ -69,15 +69,15 @@ pub(crate) const FILES: [(&str, &str); 5] = [
 pub(crate) const REFUSED: [(&str, &str); 10] = [
     (
         "config\n",
-        "bad settings: no line end follows the line config\n",
+        "bad settings: no line end, with a newline alone behind it, follows the line config\n",
     ),
     (
         "config\nend\r\nevent A\n",
-        "bad settings: no line end follows the line config\n",
+        "bad settings: no line end, with a newline alone behind it, follows the line config\n",
     ),
     (
         "config\n end\nend",
-        "bad settings: no line end follows the line config\n",
+        "bad settings: no line end, with a newline alone behind it, follows the line config\n",
     ),
     (
         "config\nglobal.prefix = 2\ndefaults.event.max-nodes = ''\nend\nevent A\n",
