@@ -44,7 +44,7 @@ static ROWS: [Row; 20] = [
     ),
     (
         "7: service event 9 1 0 0\n",
-        Said::BadLine(11, Expected::Form(LogForm::Service)),
+        Said::BadLine(11, Expected::Form(LogForm::Numbered)),
     ),
     // A number is that of one service.
     (
