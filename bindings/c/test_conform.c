@@ -295,7 +295,7 @@ int main(void) {
     CHECK(
         answers(iox2sd_conform_run((const uint8_t *)"", 0, NULL, 1), IOX2SD_STATUS_NULL, 0, 0, 0));
     CHECK(answers(iox2sd_conform_run_str(NULL, out, MOST), IOX2SD_STATUS_NULL, 0, 0, 0));
-    CHECK(answers(iox2sd_conform_run(NULL, 0, NULL, 0), IOX2SD_STATUS_BUFFER_TOO_SHORT, 1, 0, 68));
+    CHECK(answers(iox2sd_conform_run(NULL, 0, NULL, 0), IOX2SD_STATUS_BUFFER_TOO_SHORT, 1, 0, 139));
     CHECK(answers(iox2sd_conform_run_str(conforming, out, MOST), IOX2SD_STATUS_DONE, 0, 3, 31));
     no_memory(conforming, MOST, IOX2SD_STATUS_DONE);
     no_memory(refused, MOST, IOX2SD_STATUS_NO_ORDER);
