@@ -51,14 +51,16 @@ void bad_lines() {
     };
     const LogVerdict empty = check_log({});
     const std::string_view expected =
-        "line 1: the line of a service is expected, as service event 7 2 2 0\n";
+        "line 1: the line of a service is expected, as service event 7 2 2 0; a pattern is "
+        "publish-subscribe, event, request-response or blackboard\n";
     CHECK(is(empty, Status::NoServiceLine, 1, 0, expected) && has_no_parts(empty));
-    tells("\ncount\n", Status::NoCallLine, 3, "count ROLE is expected, as count listener");
+    tells("\ncount\n", Status::NoCallLine, 3,
+          "count ROLE is expected, as count listener, and no space behind it");
     tells("A> list? nodes\n", Status::NoCallLine, 2,
-          "CALLER> list? ROLE is expected, as A> list? listener");
+          "CALLER> list? ROLE is expected, as A> list? listener, and no space behind it");
     tells("nodes\n", Status::NoReplyLine, 3,
-          "a reply is expected, as handle 0 3, list, count 2 or released; below a call alone with = "
-          "before it");
+          "a reply is expected, as handle 0 3, list 1000000000000000000000001, count 2 or released; "
+          "below a call alone with = before it");
     expects("A> nodes\nA> nodes\n", Status::CallerIsBusy, 3);
     expects("A< list\n", Status::NoOpenCall, 2);
     expects("A> nodes\nA!\nA> nodes\n", Status::CallerIsDead, 4);
